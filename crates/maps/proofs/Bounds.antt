@@ -10,7 +10,7 @@ use lib.Dec.{ltb}
 use lib.Pow.{pow-pos}
 use borrow.Author.Tests.{lt-ltb, le-ltb, ltb-true, ltb-false}
 use Rattle.maps.specs.Maps.{has, unless, minus, everyone}
-use Rattle.maps.proofs.Members.{has-zero, minus-step, ext}
+use Rattle.maps.proofs.Members.{has-zero, minus-step, ext, same, lt-pow}
 
 -- ---- members and bounds
 pub has-above : (n m p : ℕ) → m < 2 ^ n → n ≤ p → has m p ≡ false
@@ -35,6 +35,20 @@ unfolding has
 below k zero m h e = omega (arith, ext k m 0 h (pow-pos k) (λ p q. e p zero-le q ∙ sym (has-zero p)))
 below zero (suc n) m h e = omega (arith, pow-pos (suc n))
 below (suc k) (suc n) m h e = omega (arith, below k n (m / 2) (omega arith) (λ p l q. e (suc p) (suc-le-suc l) (suc-le-suc q)))
+
+pub members-within : (n m : ℕ) → ((p : ℕ) → has m p ≡ true → p < n) → m < 2 ^ n
+members-within n m f = below m n m (lt-pow m) (λ p l h. out p l (has m p) refl)
+  where
+    out : (p : ℕ) → n ≤ p → (b : Bool) → has m p ≡ b → b ≡ false
+    out p l true e = absurd (omega (arith, f p e))
+    out p l false e = refl
+
+-- the map is empty exactly if it has no member
+pub empty-none : (m : ℕ) → m ≡ 0 → (p : ℕ) → has m p ≡ false
+empty-none m e p = ap (λ (x : ℕ). has x p) e ∙ has-zero p
+
+pub none-empty : (m : ℕ) → ((p : ℕ) → has m p ≡ false) → m ≡ 0
+none-empty m f = same m 0 (λ p. f p ∙ sym (has-zero p))
 
 -- ---- what keeps within n. (`or-lt` and `and-lt` are the library's)
 unless-le : (x y : ℕ) → unless x y ≤ x

@@ -1,7 +1,7 @@
 -- Who is in a map: membership of and, or, minus, of a tag and of everyone; two maps with the same members are equal.
 -- Each operation works digit by digit, and one law covers them all. Assumes nothing.
 use mathlib.Core.Path.{_≡_, refl, sym, ap, _∙_}
-use mathlib.Core.Bool.{Bool, true, false, not, _&&_, _||_, true≢false, false≢true, and-true, and-false, or-true, or-false}
+use mathlib.Core.Bool.{Bool, true, false, not, _&&_, _||_, true≢false, false≢true, and-true, and-false, or-true, or-false, cond, Bool·beq}
 use Prim.Native.Nat.{ℕ, zero, suc, _+_, _-_, _*_, _/_, _%_, _^_, _≤_, _<_, min, max, suc-le-suc, zero-le}
 use native.Mathlib.Nat.{zero-min, min-zero, suc-min-suc, zero-max, max-zero, suc-max-suc}
 use native.Mathlib.Omega.{arith}
@@ -9,8 +9,9 @@ use lib.Dec.{eqb, ltb, eqb·zero-suc, eqb·suc-zero, eqb·suc-suc, leb·zero, le
 use lib.Arith.{digits-div, digits-mod}
 use lib.Bits.{bitwise-step, bitAnd, bitOr, and-step, or-step}
 use lib.Pow.{pow-mono, pow-pos}
-use borrow.Author.Tests.{eqb-true, eqb-false, eq-eqb}
-use Rattle.maps.specs.Maps.{some, has, unless, minus, everyone}
+use borrow.Author.Tests.{eqb-true, eqb-false, eq-eqb, lt-ltb, le-ltb, ltb-true, ltb-false}
+use Rattle.maps.proofs.Truth.{taut, equal}
+use Rattle.maps.specs.Maps.{some, has, unless, minus, everyone, mapOf}
 
 -- ---- one law for all operations that work digit by digit
 module _ (op f : ℕ → ℕ → ℕ) (g : Bool → Bool → Bool)
@@ -97,8 +98,32 @@ split-eq P p q f g = go (eqb p q) refl
 pub has-through : (m p q : ℕ) → has m q && eqb p q ≡ has m p && eqb p q
 has-through m p q = split-eq (λ b. has m q && b ≡ has m p && b) p q (λ e. ap (λ (x : ℕ). has m x && true) (sym e)) (λ e. and-false (has m q) ∙ sym (and-false (has m p)))
 
+-- ---- the map of those below n that pass a test
+ltb-suc : (p n : ℕ) → ltb p (suc n) ≡ ltb p n || eqb n p
+ltb-suc p n = split-eq (λ b. ltb p (suc n) ≡ ltb p n || b) n p (λ e. lt-ltb p (suc n) (omega arith) ∙ sym (or-true (ltb p n))) (λ f. go f (ltb p n) refl ∙ sym (or-false (ltb p n)))
+  where
+    go : (n ≡ p → ⊥) → (b : Bool) → ltb p n ≡ b → ltb p (suc n) ≡ ltb p n
+    go f true e = lt-ltb p (suc n) (omega (arith, ltb-true p n e)) ∙ sym e
+    go f false e = le-ltb p (suc n) (omega (arith, ltb-false p n e)) ∙ sym e
+
+has-tag-if : (b : Bool) (q p : ℕ) → has (cond b (2 ^ q) 0) p ≡ b && eqb q p
+has-tag-if true q p = has-tag q p
+has-tag-if false q p = has-zero p
+
+pub has-map-of : (n : ℕ) (f : ℕ → Bool) (p : ℕ) → has (mapOf n f) p ≡ ltb p n && f p
+unfolding mapOf
+has-map-of zero f p = has-zero p ∙ sym (ap (λ (b : Bool). b && f p) (leb·suc-zero p))
+has-map-of (suc n) f p =
+    has-or (mapOf n f) (cond (f n) (2 ^ n) 0) p
+    ∙ ap (λ (b : Bool). b || has (cond (f n) (2 ^ n) 0) p) (has-map-of n f p)
+    ∙ ap (λ (b : Bool). (ltb p n && f p) || b) (has-tag-if (f n) n p)
+    ∙ split-eq (λ b. (ltb p n && f p) || (f n && b) ≡ (ltb p n || b) && f p) n p
+    (λ e. ap (λ (x : ℕ). (ltb p n && f p) || (f x && true)) e ∙ equal _ _ (taut 2 (λ x y. Bool·beq ((x && y) || (y && true)) ((x || true) && y)) refl (ltb p n) (f p)))
+    (λ e. equal _ _ (taut 3 (λ x y z. Bool·beq ((x && y) || (z && false)) ((x || false) && y)) refl (ltb p n) (f p) (f n)))
+    ∙ ap (λ (b : Bool). b && f p) (sym (ltb-suc p n))
+
 -- what `simp members` does: membership in a computed map comes down to membership in the given maps
-pub ruleset members = (has-and, has-or, has-minus, has-zero, has-tag, has-everyone, eqb-same, and-true, and-false, or-true, or-false)
+pub ruleset members = (has-and, has-or, has-minus, has-zero, has-tag, has-everyone, has-map-of, eqb-same, and-true, and-false, or-true, or-false)
 
 -- ---- two maps with the same members are equal
 some-eq : (x y : ℕ) → x < 2 → y < 2 → some x ≡ some y → x ≡ y
@@ -116,7 +141,7 @@ ext (suc k) a b h l e =
     let low : a % 2 ≡ b % 2 = some-eq (a % 2) (b % 2) (omega arith) (omega arith) (e zero (suc-le-suc zero-le)) in
     omega arith
 
-lt-pow : (a : ℕ) → a < 2 ^ a
+pub lt-pow : (a : ℕ) → a < 2 ^ a
 lt-pow zero = omega arith
 lt-pow (suc a) = omega (arith, lt-pow a)
 

@@ -38,6 +38,11 @@ meets a b = not (eqb (bitAnd a b) 0)
 abbrev pub everyone : ℕ → ℕ
 everyone n = 2 ^ n - 1
 
+-- the map of those of them that pass a test
+unfoldable pub mapOf : ℕ → (ℕ → Bool) → ℕ
+mapOf zero f = 0
+mapOf (suc n) f = bitOr (mapOf n f) (cond (f n) (2 ^ n) 0)
+
 -- ---- the lowest-numbered process
 
 -- the number of the lowest-numbered process of a map, 32 where it is empty: how many of the 32 digits stand below the lowest set one

@@ -4,7 +4,7 @@ ghost use mathlib.Core.Path.{_≡_};
 ghost use Prim.Native.Nat.{_<_, _≤_, _^_};
 ghost use lib.Bits.{bitOr};
 ghost use lib.Dec.{ltb};
-ghost use Rattle.maps.specs.Maps.{has, minus, meets, everyone, lowest, lowestBit, numberOf, unready, wakeAll, wakeOne};
+ghost use Rattle.maps.specs.Maps.{has, minus, meets, everyone, lowest, lowestBit, numberOf, wakeAll, wakeOne};
 
 // A process by its number. The manual keeps priorities and tags apart (6.2.1), and so do these two types: neither passes for the other.
 pub struct Number(pub u32);
@@ -114,6 +114,13 @@ pub fn left(map: u32, p: Number) -> u32
     without(map, tag_of(p))
 }
 
+// The processes of a that are not in b.
+pub fn less(a: u32, b: u32) -> u32
+    ensures { λ r. ⌜ r ≡ minus a b ⌝ }
+{
+    a & !b
+}
+
 // ---- n processes
 
 // No bit at n or above.
@@ -150,17 +157,10 @@ pub fn lowest_bit(map: u32) -> u32
 
 // ---- waking
 
-// Those in the map that aren't ready.
-pub fn not_ready(map: u32, ready: u32) -> u32
-    ensures { λ r. ⌜ r ≡ unready map ready ⌝ }
-{
-    map & !ready
-}
-
 pub fn wake_all(map: u32, ready: u32) -> Wake
     ensures { λ r. ⌜ r ≡ wakeAll map ready ⌝ }
 {
-    let all = not_ready(map, ready);
+    let all = less(map, ready);
     Wake {
         ready: with(ready, Tag(all)),
         map: without(map, Tag(all)),
@@ -171,7 +171,7 @@ pub fn wake_all(map: u32, ready: u32) -> Wake
 pub fn wake_one(map: u32, ready: u32) -> Wake
     ensures { λ r. ⌜ r ≡ wakeOne map ready ⌝ }
 {
-    let one = lowest_bit(not_ready(map, ready));
+    let one = lowest_bit(less(map, ready));
     Wake {
         ready: with(ready, Tag(one)),
         map: without(map, Tag(one)),

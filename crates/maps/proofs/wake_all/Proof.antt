@@ -4,7 +4,7 @@ use Rattle.maps.proofs.wake_all.Statement.{statement}
 use Rattle.maps.proofs.wake_all.Tie as tie
 
 returns : tie.Need-returns
-returns c = simp (c .without .ensures, c .before .with .ensures, c .before .before .not-ready .ensures)
+returns c = simp (c .without .ensures, c .before .with .ensures, c .before .before .less .ensures)
 
 pub wake-all-spec : {M : Type 1} → statement M
 wake-all-spec =

@@ -1,0 +1,10 @@
+pub mod Logic
+pub mod Lengths
+pub mod Place
+pub mod Status
+pub mod Iff
+pub mod Started
+pub mod Slots
+pub mod Gathered
+pub mod Masks
+pub mod Decides

@@ -1,0 +1,33 @@
+-- `record::soundness::see_readers` meets its contract. The invariant: the first i channels' readers are seen. Assumes nothing.
+use Prim.Native.Nat.{ℕ, _≤_, _-_}
+use mathlib.Core.Path.{_≡_, _∙_, ap}
+use native.Mathlib.Nat.{le-antisymm}
+use native.Mathlib.Numerals.{add-one}
+use Rattle.record.specs.Check.{over, readersSeen}
+use borrow.Author.Needs.{needs}
+use Rattle.record.proofs.soundness.see_readers.Statement.{statement}
+use Rattle.record.proofs.soundness.see_readers.Tie as tie
+
+abbrev Inv-loop : tie.InvT-loop
+Inv-loop waiting channel seen₀ n i₀ seen i = (i ≤ n) × (seen ≡ readersSeen channel waiting seen₀ i)
+
+abbrev μ-loop : tie.MeasureT-loop
+μ-loop waiting channel seen₀ n i₀ seen i = n - i
+
+loop-holds : tie.Need-loop-holds Inv-loop μ-loop
+unfolding over
+loop-holds c = search needs
+
+loop-again : tie.Need-loop-again Inv-loop μ-loop
+unfolding over
+loop-again c = (search needs, simp (c .see .ensures, c .before .channel-fits .ensures, c .before .before .before .before .before .loop .inv .1, add-one))
+
+returns : tie.Need-returns Inv-loop μ-loop
+returns c =
+    let a = c .before .before .before .args in
+    c .before .loop .inv .1 ∙ ap (λ (i : ℕ). readersSeen (a .t2) (a .waiting .now) (a .start) i) (le-antisymm (c .before .loop .inv .0) (c .loop-test .left))
+
+pub see-readers-spec : {M : Type 1} → statement M
+see-readers-spec =
+    tie.close
+    (tie.spec Inv-loop μ-loop (λ c. search needs) loop-holds (λ c. search needs) (λ c. search needs) (λ c. search needs) (λ c. search needs) (λ c. search needs) (λ c κs. search needs) (λ c κs. search needs) (λ c. search needs) (λ c. search needs) loop-again returns)
