@@ -126,8 +126,15 @@ module _ (k : Kernel) where
   limits-to h =
       let m = simp facts at h in
       record {
-        mode = m .0 .0 .0 .0 .0 .0 .0 .0; two = m .0 .0 .0 .0 .0 .0 .0 .1; most = m .0 .0 .0 .0 .0 .0 .1; flags = m .0 .0 .0 .0 .0 .1;
-        mutexes = m .0 .0 .0 .0 .1; channels = m .0 .0 .0 .1; depth-most = m .0 .0 .1; running-below = m .0 .1; next-below = m .1
+        mode = m .0 .0 .0 .0 .0 .0 .0 .0;
+        two = m .0 .0 .0 .0 .0 .0 .0 .1;
+        most = m .0 .0 .0 .0 .0 .0 .1;
+        flags = m .0 .0 .0 .0 .0 .1;
+        mutexes = m .0 .0 .0 .0 .1;
+        channels = m .0 .0 .0 .1;
+        depth-most = m .0 .0 .1;
+        running-below = m .0 .1;
+        next-below = m .1;
       }
 
   pub small : Limits (k .setup) (k .depth) (k .running .0) (k .next .0) → Small (k .setup)
@@ -157,24 +164,26 @@ module _ (k : Kernel) where
         core = record {
           limits = l;
           tables = record {
-            flag-long = t .0 .0 .1; mutex-long = t .0 .1; channel-long = t .1;
+            flag-long = t .0 .0 .1;
+            mutex-long = t .0 .1;
+            channel-long = t .1;
             owners = all-iff (k .setup .mutexes) (λ i. userOwner (count k) (mutexAt k i .owner)) .0 (o .0);
-            fits = λ i h. channel-to (channelAt k i) (all-iff (k .setup .channels) (λ i. channelFits (channelAt k i)) .0 (o .1) i h)
+            fits = λ i h. channel-to (channelAt k i) (all-iff (k .setup .channels) (λ i. channelFits (channelAt k i)) .0 (o .1) i h);
           };
           waits = record {
             long = t .0 .0 .0;
             ready-within = b .0 .0 .0 .1;
             within = λ a r. members-within (count k) (mapAt k a) (λ p i. f a r p i .0);
             idle-ready =
-              status.closed-ready (sleeps (waitOf k (idle k))) (limited (waitOf k (idle k))) (real k (placeOf (waitOf k (idle k)))) (isReady k (idle k)) (rests k (idle k)) (inItsMap k (idle k))
-              (rw closed at (each (idle k) below .status));
+                status.closed-ready (sleeps (waitOf k (idle k))) (limited (waitOf k (idle k))) (real k (placeOf (waitOf k (idle k)))) (isReady k (idle k)) (rests k (idle k)) (inItsMap k (idle k))
+                (rw closed at (each (idle k) below .status));
             idle-closed = closed;
-            each = each
-          }
+            each = each;
+          };
         };
         next-ready = b .1 .0 .0;
         next-lowest = b .1 .0 .1;
-        direct = b .1 .1
+        direct = b .1 .1;
       }
 
   -- ---- and back

@@ -46,6 +46,7 @@ none-fails w n f law =
     pass : (p : ℕ) → p < n → (t : Bool) → f p ≡ t → ltb p n && not (f p) ≡ false → t ≡ true
     pass p h true q e = refl
     pass p h false q e = sym (sym (ap (λ (b : Bool). b && not (f p)) (lt-ltb p n h) ∙ ap not q) ∙ e)
+
     out : (p : ℕ) (b : Bool) → ltb p n ≡ b → (t : Bool) → f p ≡ t → allBelow n f ≡ true → ltb p n && not (f p) ≡ false
     out p true h t q e = ap (λ (x : Bool). ltb p n && not x) (all-iff n f .0 e p (ltb-true p n h)) ∙ ap (λ (x : Bool). x && false) h
     out p false h t q e = ap (λ (x : Bool). x && not (f p)) h

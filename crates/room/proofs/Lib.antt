@@ -1,0 +1,3 @@
+pub mod Offsets
+pub mod Lent
+pub mod Items
