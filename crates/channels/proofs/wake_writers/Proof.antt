@@ -1,0 +1,12 @@
+-- `channels::wake_writers` meets its contract. Assumes nothing.
+use borrow.Author.Needs.{needs}
+use Rattle.channels.proofs.wake_writers.Statement.{statement}
+use Rattle.channels.proofs.wake_writers.Tie as tie
+
+returns : tie.Need-returns
+returns c = simp (c .wake-all .ensures)
+
+pub wake-writers-spec : {M : Type 1} → statement M
+wake-writers-spec =
+    tie.close
+    (tie.spec (λ c. search needs) (λ c. search needs) (λ c κs. search needs) (λ c. search needs) (λ c. search needs) returns)
