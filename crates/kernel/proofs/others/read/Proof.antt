@@ -1,0 +1,12 @@
+-- `kernel::others::read` meets its contract. Assumes nothing.
+use borrow.Author.Needs.{needs}
+use Rattle.kernel.proofs.others.read.Statement.{statement}
+use Rattle.kernel.proofs.others.read.Tie as tie
+
+returns : tie.Need-returns
+returns c = simp (c .value-read .ensures)
+
+pub read-spec : {M : Type 1} → statement M
+read-spec =
+    tie.close
+    (tie.spec (λ c κs. search needs) returns)
