@@ -1,10 +1,7 @@
 // The kernel's calls. `call` judges, then carries out; every other public function is one call. None has a `requires`: every record, number and buffer is
 // accepted, and what can't be done is refused by number with everything unchanged.
 ghost use mathlib.Core.Path.{_≡_};
-ghost use mathlib.Core.Bool.{true, false};
-ghost use lib.ListN.{length};
-ghost use Rattle.rules.specs.Refusals.{verdict};
-ghost use Rattle.rules.specs.Step.{effect, step};
+ghost use mathlib.Core.Bool.{false};
 ghost use Rattle.rules.specs.Calls.{needsRoom, isInterrupt};
 ghost use Rattle.kernel.specs.Promise.{Alone, WithRoom, WithBoth};
 use record::Kernel;
@@ -18,33 +15,14 @@ use rules::Reading;
 use rules::Request;
 use rules::Verdict;
 
-mod interrupts;
-mod others;
-mod requests;
-
 // ---- judge, then carry out
-
-fn carry_out(k: Kernel, room: &mut [u32], block: &mut [u32], c: Call) -> Outcome
-    requires { ⌜ verdict k (length (now room)) c ≡ Verdict.Accepted ⌝ }
-    ensures { λ r. ⌜ effect k (now (room .entry)) (now (block .entry)) c ≡ record { answer = r .answer; kernel = r .kernel; room = now (room .exit); block = now (block .exit) } ⌝ }
-{
-    match c {
-        Call::Enter => others::enter(k),
-        Call::Exit => others::exit(k),
-        Call::Switch => others::switch(k),
-        Call::Reading(r) => others::read(k, r),
-        Call::Process(q) => requests::request(k, room, q),
-        Call::Finish => finish::finish_wait(k, room),
-        Call::Interrupt(i) => interrupts::interrupt(k, room, block, i),
-    }
-}
 
 pub fn call(k: Kernel, room: &mut [u32], block: &mut [u32], c: Call) -> Outcome
     ensures { λ r. ⌜ WithBoth k c (now (room .entry)) (now (block .entry)) r (now (room .exit)) (now (block .exit)) ⌝ }
 {
     let v = judge::judge_call(k, room.len(), c);
     match v {
-        Verdict::Accepted => carry_out(k, room, block, c),
+        Verdict::Accepted => carry::carry_out(k, room, block, c),
         Verdict::Refused(n) => Outcome {
             answer: Answer::Refused(n),
             kernel: k,
@@ -253,7 +231,7 @@ pub fn write_interrupt(k: Kernel, room: &mut [u32], channel: u32, block: &[u32])
 {
     let v = judge::judge_call(k, room.len(), Call::Interrupt(Interrupt::Write { channel }));
     match v {
-        Verdict::Accepted => interrupts::write(k, room, channel, block),
+        Verdict::Accepted => carry::interrupts::write(k, room, channel, block),
         Verdict::Refused(n) => Outcome {
             answer: Answer::Refused(n),
             kernel: k,

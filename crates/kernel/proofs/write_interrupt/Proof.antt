@@ -3,7 +3,7 @@ use mathlib.Core.Path.{refl, sym, ap, _∙_}
 use Rattle.rules.specs.declared.Call.the-variants as call
 use Rattle.rules.specs.declared.Interrupt.the-variants as interrupt
 use Rattle.rules.specs.Step.{settle, step}
-use Rattle.kernel.proofs.Accepted.{channel-room}
+use Rattle.carry.proofs.Accepted.{channel-room}
 use borrow.Author.Needs.{needs}
 use Rattle.kernel.proofs.write_interrupt.Statement.{statement}
 use Rattle.kernel.proofs.write_interrupt.Tie as tie
