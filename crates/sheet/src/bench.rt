@@ -33,7 +33,7 @@ pub fn title(t: &[u8]) {
     text(b"\n");
 }
 
-fn late_refusal_number(r: Refusal) -> u32 {
+fn refusal_number(r: Refusal) -> u32 {
     match r {
         Refusal::NotSound => 1,
         Refusal::RoomLength => 2,
@@ -60,7 +60,7 @@ fn answer(a: Answer) {
         Answer::TimedOut => text(b"timedout"),
         Answer::Busy => text(b"busy"),
         Answer::Value(v) => number(b"value ", v),
-        Answer::Refused(r) => number(b"refused ", late_refusal_number(r)),
+        Answer::Refused(r) => number(b"refused ", refusal_number(r)),
     }
 }
 
