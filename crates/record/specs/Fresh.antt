@@ -64,6 +64,10 @@ setupFits s capacities =
     countsFit s && capacityAllowed (s .channels) 0 (getD capacities 0 0) && capacityAllowed (s .channels) 1 (getD capacities 1 0)
     && capacityAllowed (s .channels) 2 (getD capacities 2 0) && capacityAllowed (s .channels) 3 (getD capacities 3 0)
 
+-- setup is refused by number 14 exactly if it is outside the limits
+abbrev pub setupRefusal : Setup → List ℕ → ℕ
+setupRefusal s capacities = cond (setupFits s capacities) 0 14
+
 -- the fresh record within the limits; outside them refusal 14 and the record of all zeros
 abbrev pub begun : Setup → List ℕ → Fresh
 begun s capacities = cond (setupFits s capacities) (record { answer = Done; kernel = fresh s capacities }) (record { answer = OutsideLimits; kernel = zeros })

@@ -1,7 +1,7 @@
 // Setup: the fresh record within the limits, refusal 14 and the record of all zeros outside them.
 ghost use mathlib.Core.Path.{_≡_};
 ghost use Rattle.record.specs.Limits.{countsFit, capacityFits};
-ghost use Rattle.record.specs.Fresh.{zeros, startChannel, capacityAllowed, setupFits, begun};
+ghost use Rattle.record.specs.Fresh.{zeros, startChannel, capacityAllowed, setupFits, begun, refusalNumber, setupRefusal};
 use crate::Flag;
 use crate::Kernel;
 use crate::Mutex;
@@ -116,7 +116,7 @@ impl Kernel {
 
     // Capacities beyond the number of channels are not looked at.
     pub fn fresh(s: Setup, capacities: [u32; 4]) -> Fresh
-        ensures { λ r. ⌜ r ≡ begun s capacities ⌝ }
+        ensures { λ r. ⌜ (r ≡ begun s capacities) × (refusalNumber (r .answer) ≡ setupRefusal s capacities) ⌝ }
     {
         let mut k = Kernel::zeros();
         if !setup_fits(s, capacities) {

@@ -12,14 +12,16 @@ fits : (c : tie.Else1) → setupFits (c .before .before .before .args .s) (c .be
 fits c = sym (c .before .setup-fits .ensures) ∙ not-false _ (c .if1 .left)
 
 returns : tie.Need-returns
-returns c = rw (c .before .before .zeros .ensures, sym (c .before .setup-fits .ensures) ∙ not-true _ (c .if1 .taken))
+returns c =
+    let out = sym (c .before .setup-fits .ensures) ∙ not-true _ (c .if1 .taken) in
+    (rw (c .before .before .zeros .ensures, out), rw out)
 
 every-requires : tie.Need-every-requires
 every-requires c κs = setup-processes _ _ (fits c)
 
 returns-2 : tie.Need-returns-2
 returns-2 c =
-    simp (c .start-channel4 .ensures, c .before .start-channel3 .ensures, c .before .before .start-channel2 .ensures, c .before .before .before .start-channel .ensures, c .before .before .before .before .every .ensures, c .before .before .before .before .before .before .before .zeros .ensures, fits (c .before .before .before .before .before))
+    (simp (c .start-channel4 .ensures, c .before .start-channel3 .ensures, c .before .before .start-channel2 .ensures, c .before .before .before .start-channel .ensures, c .before .before .before .before .every .ensures, c .before .before .before .before .before .before .before .zeros .ensures, fits (c .before .before .before .before .before)), rw (fits (c .before .before .before .before .before)))
 
 pub fresh-spec : {M : Type 1} → statement M
 fresh-spec =
