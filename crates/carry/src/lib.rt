@@ -1,6 +1,7 @@
 // Accepted calls, carried out: what each asks of the record, the room and the numbers is given by the verdict.
 ghost use mathlib.Core.Path.{_≡_};
 ghost use lib.ListN.{length};
+ghost use Rattle.rules.specs.Answers.{said};
 ghost use Rattle.rules.specs.Refusals.{verdict};
 ghost use Rattle.rules.specs.Step.{effect};
 use record::Kernel;
@@ -14,7 +15,7 @@ pub mod requests;
 
 pub fn carry_out(k: Kernel, room: &mut [u32], block: &mut [u32], c: Call) -> Outcome
     requires { ⌜ verdict k (length (now room)) c ≡ Verdict.Accepted ⌝ }
-    ensures { λ r. ⌜ effect k (now (room .entry)) (now (block .entry)) c ≡ record { answer = r .answer; kernel = r .kernel; room = now (room .exit); block = now (block .exit) } ⌝ }
+    ensures { λ r. ⌜ effect k (now (room .entry)) (now (block .entry)) c ≡ record { answer = said (r .answer); kernel = r .kernel; room = now (room .exit); block = now (block .exit) } ⌝ }
 {
     match c {
         Call::Enter => others::enter(k),

@@ -3,7 +3,7 @@
 ghost use mathlib.Core.Path.{_≡_};
 ghost use mathlib.Core.Bool.{false};
 ghost use Rattle.rules.specs.Calls.{needsRoom, isInterrupt};
-ghost use Rattle.kernel.specs.Promise.{Alone, WithRoom, WithBoth};
+ghost use Rattle.rules.specs.Promise.{Alone, WithRoom, WithBoth};
 use record::Kernel;
 use ring::End;
 use rules::Answer;

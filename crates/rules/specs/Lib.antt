@@ -1,3 +1,4 @@
+pub mod Answers
 pub mod Update
 pub mod Blocks
 pub mod Calls
@@ -5,3 +6,7 @@ pub mod Refusals
 pub mod Effects
 pub mod Finish
 pub mod Step
+pub mod Promise
+pub mod Deferred
+pub mod Sheet
+pub mod Demands

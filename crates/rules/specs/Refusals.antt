@@ -16,29 +16,11 @@ use Rattle.record.specs.Sound.{sound}
 use Rattle.room.specs.Room.{roomLength}
 use Rattle.rules.specs.declared.Call.{Call}
 use Rattle.rules.specs.declared.Refusal.{Refusal}
-use Rattle.rules.specs.declared.Refusal.the-variants.{NotSound, RoomLength, InInterrupt, OutsideInterrupt, SwitchPending, IdleRuns, WaitOpen, NothingOpen, Missing, OwnedAlready, NotOwner, TooDeep, NonePending, OutsideLimits, Unreadable}
+use Rattle.rules.specs.declared.Refusal.the-variants.{NotSound, RoomLength, InInterrupt, OutsideInterrupt, SwitchPending, IdleRuns, WaitOpen, NothingOpen, Missing, OwnedAlready, NotOwner, TooDeep, NonePending}
 use Rattle.rules.specs.declared.Seen.{Seen}
 use Rattle.rules.specs.declared.Verdict.{Verdict}
 use Rattle.rules.specs.declared.Verdict.the-variants.{Accepted, Refused}
 use Rattle.rules.specs.Calls.{isProcess, isInterrupt, isFinish, isEnter, isExit, isSwitch, namedBy, missing, needsRoom, takes, unlocks, frees, ownerNamed}
-
--- the document's number of each refusal
-abbrev pub number : Refusal → ℕ
-number NotSound = 1
-number RoomLength = 2
-number InInterrupt = 3
-number OutsideInterrupt = 4
-number SwitchPending = 5
-number IdleRuns = 6
-number WaitOpen = 7
-number NothingOpen = 8
-number Missing = 9
-number OwnedAlready = 10
-number NotOwner = 11
-number TooDeep = 12
-number NonePending = 13
-number OutsideLimits = 14
-number Unreadable = 15
 
 abbrev pub isFree : Owner → Bool
 isFree owner.Nobody = true

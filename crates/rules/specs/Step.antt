@@ -11,11 +11,11 @@ use Rattle.rules.specs.declared.Request.{Request}
 use Rattle.rules.specs.declared.Request.the-variants as request
 use Rattle.rules.specs.declared.Interrupt.{Interrupt as InterruptT}
 use Rattle.rules.specs.declared.Interrupt.the-variants as interrupt
-use Rattle.rules.specs.declared.Answer.{Answer}
-use Rattle.rules.specs.declared.Answer.the-variants.{Done, Value, Refused}
+use Rattle.rules.specs.declared.Answer.the-variants.{Done, Value}
 use Rattle.rules.specs.declared.Outcome.{Outcome}
 use Rattle.rules.specs.declared.Verdict.{Verdict}
 use Rattle.rules.specs.declared.Verdict.the-variants as verdict
+use Rattle.rules.specs.Answers.{Said, value, refused, number, said}
 use Rattle.rules.specs.Update.{withDepth, withRunning}
 use Rattle.rules.specs.Blocks.{caller, callerRow, choose}
 use Rattle.rules.specs.Calls.{numbered}
@@ -23,18 +23,19 @@ use Rattle.rules.specs.Refusals.{verdict as verdictOn}
 use Rattle.rules.specs.Effects.{Effect, answered, inPlace, ends, exited, valueRead, slept, cleared, waited, signalled, lockedOr, tried, unlocked, pushedOr, poppedOr, flushed, forced, woken, ticked, wordsWritten, written, roomWritten, wordsRead, readOut, blockRead}
 use Rattle.rules.specs.Finish.{finished}
 
+-- the answer is the document's
 pub record Result : Type 0 where
-  pub answer : Answer
+  pub answer : Said
   pub kernel : Kernel
   pub room : List ℕ
   pub block : List ℕ
 
 -- room and block as they came; the block as it came
 abbrev pub keeping : List ℕ → List ℕ → Outcome → Result
-keeping room block o = record { answer = o .answer; kernel = o .kernel; room = room; block = block }
+keeping room block o = record { answer = said (o .answer); kernel = o .kernel; room = room; block = block }
 
 abbrev pub keepingBlock : List ℕ → Effect → Result
-keepingBlock block e = record { answer = e .answer; kernel = e .kernel; room = e .room; block = block }
+keepingBlock block e = record { answer = said (e .answer); kernel = e .kernel; room = e .room; block = block }
 
 -- ---- the process calls
 abbrev pub requested : Kernel → List ℕ → Request → Effect
@@ -57,13 +58,13 @@ interrupted k room block interrupt.Tick = keeping room block (answered Done (tic
 interrupted k room block (interrupt.Signal i) = keeping room block (answered Done (signalled k i))
 interrupted k room block (interrupt.Unlock i) = keeping room block (answered Done (unlocked k i))
 interrupted k room block (interrupt.Write i) = record {
-  answer = Value (wordsWritten k i block);
+  answer = value (wordsWritten k i block);
   kernel = written k i (wordsWritten k i block);
   room = roomWritten k room i block (wordsWritten k i block);
   block = block;
 }
 interrupted k room block (interrupt.Read i) = record {
-  answer = Value (wordsRead k i block);
+  answer = value (wordsRead k i block);
   kernel = readOut k i (wordsRead k i block);
   room = room;
   block = blockRead k room i block (wordsRead k i block);
@@ -81,7 +82,7 @@ effect k room block (Interrupt i) = interrupted k room block i
 
 abbrev pub settle : Kernel → List ℕ → List ℕ → Call → Verdict → Result
 settle k room block c verdict.Accepted = effect k room block c
-settle k room block c (verdict.Refused r) = record { answer = Refused r; kernel = k; room = room; block = block }
+settle k room block c (verdict.Refused r) = record { answer = refused (number r); kernel = k; room = room; block = block }
 
 unfoldable pub step : Kernel → List ℕ → List ℕ → Call → Result
 step k room block c = settle k room block c (verdictOn k (length room) c)
@@ -96,7 +97,7 @@ pub record Given : Type 0 where
 pub record Event : Type 0 where
   pub caller : Number
   pub given : Given
-  pub answer : Answer
+  pub answer : Said
   pub block : List ℕ
 
 pub record State : Type 0 where

@@ -1,7 +1,8 @@
 -- `carry::carry_out` meets its contract, kind by kind: what each asks is given by acceptance. Assumes nothing.
 use mathlib.Core.Path.{refl, ap}
 use Rattle.rules.specs.Step.{keepingBlock}
-use Rattle.carry.proofs.Accepted.{passed, sound-of, caller-slot, caller-slotted, caller-usable, depth-above, readable}
+use Rattle.rules.proofs.Accepted.{passed, sound-of, depth-above}
+use Rattle.carry.proofs.Accepted.{caller-slot, caller-slotted, caller-usable, readable}
 use borrow.Author.Needs.{needs}
 use Rattle.carry.proofs.carry_out.Statement.{statement}
 use Rattle.carry.proofs.carry_out.Tie as tie

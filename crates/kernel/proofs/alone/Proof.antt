@@ -1,7 +1,7 @@
 -- `kernel::alone` meets its contract: a call that needs no room does the same whatever the room and the block. Assumes nothing.
 use mathlib.Core.Path.{ap, _∙_}
 use Rattle.rules.specs.Step.{Result}
-use Rattle.kernel.proofs.Lent.{moved, step-alone}
+use Rattle.rules.proofs.Lent.{moved, step-alone}
 use borrow.Author.Needs.{needs}
 use Rattle.kernel.proofs.alone.Statement.{statement}
 use Rattle.kernel.proofs.alone.Tie as tie

@@ -1,7 +1,7 @@
 -- `kernel::with_room` meets its contract: a call that is no interrupt call does the same whatever the block. Assumes nothing.
 use mathlib.Core.Path.{ap, _∙_}
 use Rattle.rules.specs.Step.{Result}
-use Rattle.kernel.proofs.Lent.{moved, step-room}
+use Rattle.rules.proofs.Lent.{moved, step-room}
 use borrow.Author.Needs.{needs}
 use Rattle.kernel.proofs.with_room.Statement.{statement}
 use Rattle.kernel.proofs.with_room.Tie as tie

@@ -1,6 +1,7 @@
 -- `carry::interrupts::interrupt` meets its contract, call by call: what each asks is given by acceptance. Assumes nothing.
 use mathlib.Core.Path.{refl}
-use Rattle.carry.proofs.Accepted.{sound-of, flag-slot, mutex-slot, channel-room}
+use Rattle.rules.proofs.Accepted.{sound-of}
+use Rattle.carry.proofs.Accepted.{flag-slot, mutex-slot, channel-room}
 use borrow.Author.Needs.{needs}
 use Rattle.carry.proofs.interrupts.interrupt.Statement.{statement}
 use Rattle.carry.proofs.interrupts.interrupt.Tie as tie
