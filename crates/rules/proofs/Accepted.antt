@@ -18,7 +18,6 @@ use Rattle.room.specs.Room.{roomLength}
 use Rattle.rules.specs.declared.Call.{Call}
 use Rattle.rules.specs.declared.Named.the-variants as named
 use Rattle.rules.specs.declared.Refusal.{Refusal}
-use Rattle.rules.specs.declared.Refusal.the-variants as no
 use Rattle.rules.specs.declared.Verdict.{Verdict}
 use Rattle.rules.specs.declared.Verdict.the-variants.{Accepted, Refused}
 use Rattle.rules.specs.Calls.{isProcess, isInterrupt, isFinish, isEnter, isExit, needsRoom, namedBy, missing}
@@ -47,18 +46,18 @@ pub passed : (k : Kernel) (n : ℕ) (c : Call) → verdict k n c ≡ Accepted �
 unfolding verdict
 passed k n c e =
     let s = seen k n c in
-    let e1 = let-by (notSound s) no.NotSound _ e in
-    let e2 = let-by (wrongRoom s c) no.RoomLength _ (e1 .1) in
-    let e3 = let-by (inInterrupt s c) no.InInterrupt _ (e2 .1) in
-    let e4 = let-by (outsideInterrupt s c) no.OutsideInterrupt _ (e3 .1) in
-    let e5 = let-by (switchPending s c) no.SwitchPending _ (e4 .1) in
-    let e6 = let-by (idleRuns s c) no.IdleRuns _ (e5 .1) in
-    let e7 = let-by (waitOpen s c) no.WaitOpen _ (e6 .1) in
-    let e8 = let-by (nothingOpen s c) no.NothingOpen _ (e7 .1) in
-    let e9 = let-by (namesMissing s c) no.Missing _ (e8 .1) in
-    let e10 = let-by (ownedAlready s c) no.OwnedAlready _ (e9 .1) in
-    let e11 = let-by (notOwner s c) no.NotOwner _ (e10 .1) in
-    let e12 = let-by (tooDeep s c) no.TooDeep _ (e11 .1) in
+    let e1 = let-by (notSound s) _ _ e in
+    let e2 = let-by (wrongRoom s c) _ _ (e1 .1) in
+    let e3 = let-by (inInterrupt s c) _ _ (e2 .1) in
+    let e4 = let-by (outsideInterrupt s c) _ _ (e3 .1) in
+    let e5 = let-by (switchPending s c) _ _ (e4 .1) in
+    let e6 = let-by (idleRuns s c) _ _ (e5 .1) in
+    let e7 = let-by (waitOpen s c) _ _ (e6 .1) in
+    let e8 = let-by (nothingOpen s c) _ _ (e7 .1) in
+    let e9 = let-by (namesMissing s c) _ _ (e8 .1) in
+    let e10 = let-by (ownedAlready s c) _ _ (e9 .1) in
+    let e11 = let-by (notOwner s c) _ _ (e10 .1) in
+    let e12 = let-by (tooDeep s c) _ _ (e11 .1) in
     record {
       facts = sound-to k (not-false (sound k) (e1 .0));
       fits = λ h. eqb-true n (roomLength k) (fits-to (needsRoom c) (eqb n (roomLength k)) (e2 .0) h);
