@@ -1,1 +1,3 @@
-pub mod Readable
+pub mod Targets
+pub mod Ticks
+pub mod Needed

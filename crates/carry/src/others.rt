@@ -1,52 +1,53 @@
 // Accepted calls that may be made anywhere.
 ghost use mathlib.Core.Path.{_≡_};
 ghost use Prim.Native.Nat.{_+_, _<_, _≤_};
-ghost use Rattle.rules.specs.Update.{withDepth, withRunning};
-ghost use Rattle.rules.specs.Effects.{answered, exited, ownerNumber, stateNumber, valueRead};
-ghost use Rattle.carry.specs.Readable.{Readable};
-use record::Kernel;
+ghost use Rattle.rules.specs.Effects.{ownerNumber, stateNumber};
+ghost use Rattle.parts.specs.Update.{withDepth, withRunning};
+ghost use Rattle.parts.specs.Effects.{answered, exited, valueRead};
+ghost use Rattle.carry.specs.Needed.{Readable};
+use parts::Did;
+use parts::Parts;
 use record::Owner;
 use rules::Answer;
-use rules::Outcome;
 use rules::Reading;
 
-pub fn done(k: Kernel) -> Outcome
-    ensures { λ r. ⌜ r ≡ answered Answer.Done k ⌝ }
+pub fn done(x: Parts) -> Did
+    ensures { λ r. ⌜ r ≡ answered Answer.Done x ⌝ }
 {
-    Outcome {
+    Did {
         answer: Answer::Done,
-        kernel: k,
+        parts: x,
     }
 }
 
-pub fn enter(k: Kernel) -> Outcome
-    requires { ⌜ k .depth ≤ 8 ⌝ }
-    ensures { λ r. ⌜ r ≡ answered Answer.Done (withDepth k (k .depth + 1)) ⌝ }
+pub fn enter(x: Parts) -> Did
+    requires { ⌜ x .depth ≤ 8 ⌝ }
+    ensures { λ r. ⌜ r ≡ answered Answer.Done (withDepth x (x .depth + 1)) ⌝ }
 {
-    let mut next = k;
-    next.depth = k.depth + 1;
-    done(next)
+    let mut y = x;
+    y.depth = x.depth + 1;
+    done(y)
 }
 
-pub fn exit(k: Kernel) -> Outcome
-    requires { ⌜ 0 < k .depth ⌝ }
-    ensures { λ r. ⌜ r ≡ answered Answer.Done (exited k) ⌝ }
+pub fn exit(x: Parts) -> Did
+    requires { ⌜ 0 < x .depth ⌝ }
+    ensures { λ r. ⌜ r ≡ answered Answer.Done (exited x) ⌝ }
 {
-    let mut next = k;
-    next.depth = k.depth - 1;
-    if k.depth == 1 {
-        return done(blocks::chosen(next));
+    let mut y = x;
+    y.depth = x.depth - 1;
+    if x.depth == 1 {
+        return done(parts::blocks::chosen(y));
     }
-    done(next)
+    done(y)
 }
 
-pub fn switch(k: Kernel) -> Outcome
-    ensures { λ r. ⌜ r ≡ answered Answer.Done (withRunning k (k .next)) ⌝ }
+pub fn switch(x: Parts) -> Did
+    ensures { λ r. ⌜ r ≡ answered Answer.Done (withRunning x (x .next)) ⌝ }
 {
-    let to = k.next;
-    let mut next = k;
-    next.running = to;
-    done(next)
+    let to = x.next;
+    let mut y = x;
+    y.running = to;
+    done(y)
 }
 
 fn state_number(on: bool) -> u32
@@ -64,63 +65,30 @@ fn owner_number(n: u32, o: Owner) -> u32
     }
 }
 
-fn read_state(k: Kernel, i: u32) -> u32
-    requires { ⌜ Readable k (Reading.FlagState i) ⌝ }
-    ensures { λ v. ⌜ v ≡ valueRead k (Reading.FlagState i) ⌝ }
+fn value_read(x: Parts, n: u32, ticks: u32, r: Reading) -> u32
+    requires { ⌜ Readable x r ⌝ }
+    ensures { λ v. ⌜ v ≡ valueRead x n ticks r ⌝ }
 {
-    let at = i as usize;
-    state_number(k.flag[at].on)
-}
-
-fn read_owner(k: Kernel, i: u32) -> u32
-    requires { ⌜ Readable k (Reading.Owner i) ⌝ }
-    ensures { λ v. ⌜ v ≡ valueRead k (Reading.Owner i) ⌝ }
-{
-    let at = i as usize;
-    let x = k.mutex[at];
-    let o = x.owner;
-    owner_number(k.setup.processes, o)
-}
-
-fn read_count(k: Kernel, i: u32) -> u32
-    requires { ⌜ Readable k (Reading.ItemCount i) ⌝ }
-    ensures { λ v. ⌜ v ≡ valueRead k (Reading.ItemCount i) ⌝ }
-{
-    let at = i as usize;
-    k.channel[at].count
-}
-
-fn read_free(k: Kernel, i: u32) -> u32
-    requires { ⌜ Readable k (Reading.FreePlaces i) ⌝ }
-    ensures { λ v. ⌜ v ≡ valueRead k (Reading.FreePlaces i) ⌝ }
-{
-    let at = i as usize;
-    let c = k.channel[at];
-    c.capacity - c.count
-}
-
-fn value_read(k: Kernel, r: Reading) -> u32
-    requires { ⌜ Readable k r ⌝ }
-    ensures { λ v. ⌜ v ≡ valueRead k r ⌝ }
-{
+    let m = x.mutex;
+    let o = m.owner;
     match r {
-        Reading::Running => k.running.0,
-        Reading::Next => k.next.0,
-        Reading::Ready => k.ready,
-        Reading::Ticks => k.ticks,
-        Reading::FlagState { flag } => read_state(k, flag),
-        Reading::Owner { mutex } => read_owner(k, mutex),
-        Reading::ItemCount { channel } => read_count(k, channel),
-        Reading::FreePlaces { channel } => read_free(k, channel),
+        Reading::Running => x.running.0,
+        Reading::Next => x.next.0,
+        Reading::Ready => x.ready,
+        Reading::Ticks => ticks,
+        Reading::FlagState { flag: _ } => state_number(x.flag.on),
+        Reading::Owner { mutex: _ } => owner_number(n, o),
+        Reading::ItemCount { channel: _ } => x.channel.count,
+        Reading::FreePlaces { channel: _ } => x.channel.capacity - x.channel.count,
     }
 }
 
-pub fn read(k: Kernel, r: Reading) -> Outcome
-    requires { ⌜ Readable k r ⌝ }
-    ensures { λ o. ⌜ o ≡ answered (Answer.Value (valueRead k r)) k ⌝ }
+pub fn read(x: Parts, n: u32, ticks: u32, r: Reading) -> Did
+    requires { ⌜ Readable x r ⌝ }
+    ensures { λ d. ⌜ d ≡ answered (Answer.Value (valueRead x n ticks r)) x ⌝ }
 {
-    Outcome {
-        answer: Answer::Value(value_read(k, r)),
-        kernel: k,
+    Did {
+        answer: Answer::Value(value_read(x, n, ticks, r)),
+        parts: x,
     }
 }

@@ -3,81 +3,57 @@ ghost use mathlib.Core.Path.{_≡_};
 ghost use Prim.Native.Nat.{_<_};
 ghost use lib.ListN.{length};
 ghost use Rattle.rules.specs.Calls.{numbered};
-ghost use Rattle.rules.specs.Refusals.{verdict};
-ghost use Rattle.rules.specs.Effects.{ends, cleared, signalled, unlocked, flushed, woken, forced};
-ghost use Rattle.rules.specs.Step.{requested};
-use record::Kernel;
+ghost use Rattle.parts.specs.Effects.{ends, woken, forced};
+ghost use Rattle.parts.specs.Step.{requested};
+ghost use Rattle.carry.specs.Needed.{Asked};
+use parts::Did;
+use parts::Parts;
+use parts::blocks;
+use ring::Channel;
 use rules::Answer;
-use rules::Call;
 use rules::Name;
-use rules::Outcome;
 use rules::Request;
-use rules::Verdict;
 
-fn signal(k: Kernel, f: u32) -> Outcome
-    requires { ⌜ f < 8 ⌝ }
-    ensures { λ r. ⌜ r ≡ ends Answer.Done (signalled k f) ⌝ }
-{
-    blocks::ended(Answer::Done, services::flags::signal(k, f))
-}
-
-fn clear(k: Kernel, f: u32) -> Outcome
-    requires { ⌜ f < 8 ⌝ }
-    ensures { λ r. ⌜ r ≡ ends Answer.Done (cleared k f) ⌝ }
-{
-    blocks::ended(Answer::Done, services::flags::clear(k, f))
-}
-
-fn unlock(k: Kernel, i: u32) -> Outcome
-    requires { ⌜ i < 8 ⌝ }
-    ensures { λ r. ⌜ r ≡ ends Answer.Done (unlocked k i) ⌝ }
-{
-    blocks::ended(Answer::Done, services::mutexes::unlock(k, i))
-}
-
-fn flush(k: Kernel, i: u32) -> Outcome
-    requires { ⌜ i < 4 ⌝ }
-    ensures { λ r. ⌜ r ≡ ends Answer.Done (flushed k i) ⌝ }
-{
-    blocks::ended(Answer::Done, channels::flush(k, i))
-}
-
-fn wake(k: Kernel, n: Name) -> Outcome
+fn wake(x: Parts, n: Name) -> Did
     requires { ⌜ numbered n .0 < 32 ⌝ }
-    ensures { λ r. ⌜ r ≡ ends Answer.Done (woken k (numbered n .0)) ⌝ }
+    ensures { λ r. ⌜ r ≡ ends Answer.Done (woken x (numbered n .0)) ⌝ }
 {
     let p = judge::named::numbered(n);
-    blocks::ended(Answer::Done, services::processes::wake(k, p))
+    blocks::ended(Answer::Done, parts::processes::wake(x, p))
 }
 
-fn force(k: Kernel, n: Name) -> Outcome
+fn force(x: Parts, n: Name) -> Did
     requires { ⌜ numbered n .0 < 32 ⌝ }
-    ensures { λ r. ⌜ r ≡ ends Answer.Done (forced k (numbered n .0)) ⌝ }
+    ensures { λ r. ⌜ r ≡ ends Answer.Done (forced x (numbered n .0)) ⌝ }
 {
     let p = judge::named::numbered(n);
-    blocks::ended(Answer::Done, services::processes::force(k, p))
+    blocks::ended(Answer::Done, parts::processes::force(x, p))
 }
 
-pub fn request(k: Kernel, room: &mut [u32], q: Request) -> Outcome
-    requires { ⌜ verdict k (length (now room)) (Call.Process q) ≡ Verdict.Accepted ⌝ }
-    ensures { λ r. ⌜ requested k (now (room .entry)) q ≡ record { answer = r .answer; kernel = r .kernel; room = now (room .exit) } ⌝ }
+pub fn request(x: Parts, channel: [Channel; 4], room: &mut [u32], q: Request) -> Did
+    requires { ⌜ (x .running .0 < 32) × Asked x channel (length (now room)) q ⌝ }
+    ensures { λ r. ⌜ requested x channel (now (room .entry)) q ≡ record { answer = r .answer; parts = r .parts; room = now (room .exit) } ⌝ }
 {
     match q {
-        Request::Sleep { limit } => services::flags::sleep(k, limit),
-        Request::Wait { flag, limit } => services::flags::wait(k, flag, limit),
-        Request::Signal { flag } => signal(k, flag),
-        Request::Clear { flag } => clear(k, flag),
-        Request::Lock { mutex, limit } => services::mutexes::lock(k, mutex, limit),
-        Request::Try { mutex } => services::mutexes::try_lock(k, mutex),
-        Request::Unlock { mutex } => unlock(k, mutex),
-        Request::Push { channel, item, end } => channels::push(k, room, channel, item, end),
+        Request::Sleep { limit } => parts::flags::sleep(x, limit),
+        Request::Wait { flag, limit } => parts::flags::wait(x, flag, limit),
+        Request::Signal { flag: _ } => blocks::ended(Answer::Done, parts::flags::signal(x)),
+        Request::Clear { flag: _ } => blocks::ended(Answer::Done, parts::flags::clear(x)),
+        Request::Lock { mutex, limit } => parts::mutexes::lock(x, mutex, limit),
+        Request::Try { mutex: _ } => parts::mutexes::try_lock(x),
+        Request::Unlock { mutex: _ } => blocks::ended(Answer::Done, parts::mutexes::unlock(x)),
+        Request::Push {
+            channel: i,
+            item,
+            end,
+        } => parts::channels::push(x, channel, room, i, item, end),
         Request::Pop {
-            channel,
+            channel: i,
             end,
             limit,
-        } => channels::pop(k, room, channel, end, limit),
-        Request::Flush { channel } => flush(k, channel),
-        Request::Wake { process } => wake(k, process),
-        Request::Force { process } => force(k, process),
+        } => parts::channels::pop(x, channel, room, i, end, limit),
+        Request::Flush { channel: _ } => blocks::ended(Answer::Done, parts::channels::flush(x)),
+        Request::Wake { process } => wake(x, process),
+        Request::Force { process } => force(x, process),
     }
 }

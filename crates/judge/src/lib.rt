@@ -2,8 +2,16 @@
 ghost use mathlib.Core.Path.{_≡_};
 ghost use mathlib.Core.Bool.{true};
 ghost use Prim.Native.Nat.{_<_, _≤_};
-ghost use Rattle.rules.specs.Refusals.{wrongRoom, inInterrupt, outsideInterrupt, switchPending, idleRuns, waitOpen, nothingOpen, namesMissing, ownedAlready, notOwner, tooDeep, nonePending, first, laterRows, table, verdict};
+ghost use lib.Dec.{eqb};
+ghost use Rattle.room.specs.Room.{offset};
+ghost use Rattle.rules.specs.Calls.{namedBy, ownerNamed};
+ghost use Rattle.rules.specs.Refusals.{wrongRoom, inInterrupt, outsideInterrupt, switchPending, idleRuns, waitOpen, nothingOpen, namesMissing, ownedAlready, notOwner, tooDeep, nonePending, first, laterRows, table};
+use maps::Number;
 use record::Kernel;
+use record::Mutex;
+use record::Setup;
+use record::Wait;
+use ring::Channel;
 use rules::Call;
 use rules::Refusal;
 use rules::Seen;
@@ -146,28 +154,33 @@ fn judge_early(s: Seen, c: Call) -> Verdict
     judge_late(s, c)
 }
 
-// With a room of n words.
-pub fn judge_call(k: Kernel, n: usize, c: Call) -> Verdict
-    ensures { λ r. ⌜ r ≡ verdict k n c ⌝ }
+// Of small values: whether the record is sound, its setup, depth, running and next, the caller's open wait, the mutexes and the channels; with a room of n
+// words.
+pub fn judge_call(
+    sound: bool,
+    setup: Setup,
+    depth: u32,
+    running: Number,
+    next: Number,
+    wait: Wait,
+    mutex: [Mutex; 8],
+    channel: [Channel; 4],
+    n: usize,
+    c: Call,
+) -> Verdict
+    requires { ⌜ (sound ≡ true → (2 ≤ setup .processes) × (setup .channels ≤ 4)) ⌝ }
+    ensures { λ r. ⌜ r ≡ first (table (record { sound = sound; fits = eqb n (offset channel (setup .channels)); setup = setup; depth = depth; running = running; next = next; wait = wait; owner = ownerNamed mutex (namedBy c) }) c) ⌝ }
 {
-    if !record::soundness::is_sound(k) {
+    if !sound {
         return Verdict::Refused(Refusal::NotSound);
     }
-    let p = k.running.0 as usize;
-    let me = k.process[p];
-    let wait = me.wait;
-    let channel = k.channel;
-    let mutex = k.mutex;
-    let setup = k.setup;
     let fits = n == room::offset_of(channel, setup.channels);
     let owner = named::owner_named(mutex, named::named_by(c));
-    let running = k.running;
-    let next = k.next;
     let s = Seen {
         sound: true,
         fits,
         setup,
-        depth: k.depth,
+        depth,
         running,
         next,
         wait,

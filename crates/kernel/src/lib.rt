@@ -1,33 +1,113 @@
-// The kernel's calls. `call` judges, then carries out; every other public function is one call. None has a `requires`: every record, number and buffer is
-// accepted, and what can't be done is refused by number with everything unchanged.
+// The kernel's calls. `stepped` judges and carries out any call; every public function is one call, `call` any. None has a `requires`: every record, number
+// and buffer is accepted, and what can't be done is refused by number with everything unchanged.
 ghost use mathlib.Core.Path.{_≡_};
 ghost use mathlib.Core.Bool.{false};
 ghost use Rattle.rules.specs.Calls.{needsRoom, isInterrupt};
+ghost use Rattle.rules.specs.Answers.{said};
+ghost use Rattle.rules.specs.Step.{step};
 ghost use Rattle.rules.specs.Promise.{Alone, WithRoom, WithBoth};
+ghost use Rattle.carry.specs.Targets.{lent};
+use parts::Parts;
 use record::Kernel;
 use ring::End;
-use rules::Answer;
 use rules::Call;
 use rules::Interrupt;
 use rules::Name;
 use rules::Outcome;
 use rules::Reading;
 use rules::Request;
-use rules::Verdict;
 
-// ---- judge, then carry out
+// ---- any call
+
+// The record is copied to one local, and that is stored to where the call's parts stand. What the call does is worked out over the parts. A write from
+// interrupt is lent the first block, every other call the second.
+fn stepped(k: Kernel, room: &mut [u32], from: &[u32], to: &mut [u32], c: Call) -> Outcome
+    ensures { λ r. ⌜ step k (now (room .entry)) (lent c (now (from .entry)) (now (to .entry))) c ≡ record { answer = said (r .answer); kernel = r .kernel; room = now (room .exit); block = lent c (now (from .entry)) (now (to .exit)) } ⌝ }
+{
+    let mut next = k;
+    let sound = record::soundness::is_sound(next);
+    let me = parts::spots::below(Kernel::PROCESSES, next.running.0) as usize;
+    let own = next.process[me];
+    let wait = own.wait;
+    let s = carry::spots::spot_of(next.running, wait, c);
+    let p = s.process as usize;
+    let f = s.flag as usize;
+    let m = s.mutex as usize;
+    let i = s.channel as usize;
+    let setup = next.setup;
+    let mutexes = next.mutex;
+    let channels = next.channel;
+    let running = next.running;
+    let follows = next.next;
+    let row = next.process[p];
+    let flag = next.flag[f];
+    let mutex = next.mutex[m];
+    let channel = next.channel[i];
+    let x = Parts {
+        mode: setup.mode,
+        depth: next.depth,
+        running,
+        next: follows,
+        ready: next.ready,
+        row,
+        flag,
+        mutex,
+        channel,
+    };
+    let d = carry::settle(
+        sound,
+        setup,
+        next.ticks,
+        x,
+        wait,
+        mutexes,
+        channels,
+        room,
+        from,
+        to,
+        c,
+    );
+    let answer = d.answer;
+    let y = d.parts;
+    let new_running = y.running;
+    let new_next = y.next;
+    let new_row = y.row;
+    let new_flag = y.flag;
+    let new_mutex = y.mutex;
+    let new_channel = y.channel;
+    next.depth = y.depth;
+    next.running = new_running;
+    next.next = new_next;
+    next.ready = y.ready;
+    next.process[p] = new_row;
+    next.flag[f] = new_flag;
+    next.mutex[m] = new_mutex;
+    next.channel[i] = new_channel;
+    let counts = carry::ticks::counts(c, answer);
+    next.ticks = carry::ticks::ticks_after(counts, next.ticks);
+    let users = carry::ticks::falling(counts, setup.processes);
+    for q in 0..users {
+        let at = q as usize;
+        let it = next.process[at];
+        let old = it.counter;
+        next.process[at].counter = carry::ticks::lowered(old);
+        next.ready = next.ready | carry::ticks::due(old, q);
+    }
+    Outcome {
+        answer,
+        kernel: next,
+    }
+}
 
 pub fn call(k: Kernel, room: &mut [u32], block: &mut [u32], c: Call) -> Outcome
     ensures { λ r. ⌜ WithBoth k c (now (room .entry)) (now (block .entry)) r (now (room .exit)) (now (block .exit)) ⌝ }
 {
-    let v = judge::judge_call(k, room.len(), c);
-    match v {
-        Verdict::Accepted => carry::carry_out(k, room, block, c),
-        Verdict::Refused(n) => Outcome {
-            answer: Answer::Refused(n),
-            kernel: k,
-        },
+    if carry::spots::is_write(c) {
+        let mut to = [0u32; 0];
+        return stepped(k, room, &*block, &mut to, c);
     }
+    let from = [0u32; 0];
+    stepped(k, room, &from, block, c)
 }
 
 // ---- calls that are lent less
@@ -37,16 +117,18 @@ fn alone(k: Kernel, c: Call) -> Outcome
     ensures { λ r. ⌜ Alone k c r ⌝ }
 {
     let mut room = [0u32; 0];
-    let mut block = [0u32; 0];
-    call(k, &mut room, &mut block, c)
+    let from = [0u32; 0];
+    let mut to = [0u32; 0];
+    stepped(k, &mut room, &from, &mut to, c)
 }
 
 fn with_room(k: Kernel, room: &mut [u32], c: Call) -> Outcome
     requires { ⌜ isInterrupt c ≡ false ⌝ }
     ensures { λ r. ⌜ WithRoom k c (now (room .entry)) r (now (room .exit)) ⌝ }
 {
-    let mut block = [0u32; 0];
-    call(k, room, &mut block, c)
+    let from = [0u32; 0];
+    let mut to = [0u32; 0];
+    stepped(k, room, &from, &mut to, c)
 }
 
 // ---- anywhere
@@ -229,18 +311,25 @@ pub fn unlock_interrupt(k: Kernel, mutex: u32) -> Outcome
 pub fn write_interrupt(k: Kernel, room: &mut [u32], channel: u32, block: &[u32]) -> Outcome
     ensures { λ r. ⌜ WithBoth k (Call.Interrupt (Interrupt.Write channel)) (now (room .entry)) (now (block .entry)) r (now (room .exit)) (now (block .entry)) ⌝ }
 {
-    let v = judge::judge_call(k, room.len(), Call::Interrupt(Interrupt::Write { channel }));
-    match v {
-        Verdict::Accepted => carry::interrupts::write(k, room, channel, block),
-        Verdict::Refused(n) => Outcome {
-            answer: Answer::Refused(n),
-            kernel: k,
-        },
-    }
+    let mut to = [0u32; 0];
+    stepped(
+        k,
+        room,
+        block,
+        &mut to,
+        Call::Interrupt(Interrupt::Write { channel }),
+    )
 }
 
 pub fn read_interrupt(k: Kernel, room: &mut [u32], channel: u32, block: &mut [u32]) -> Outcome
     ensures { λ r. ⌜ WithBoth k (Call.Interrupt (Interrupt.Read channel)) (now (room .entry)) (now (block .entry)) r (now (room .exit)) (now (block .exit)) ⌝ }
 {
-    call(k, room, block, Call::Interrupt(Interrupt::Read { channel }))
+    let from = [0u32; 0];
+    stepped(
+        k,
+        room,
+        &from,
+        block,
+        Call::Interrupt(Interrupt::Read { channel }),
+    )
 }

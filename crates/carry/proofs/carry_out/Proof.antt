@@ -1,32 +1,27 @@
--- `carry::carry_out` meets its contract, kind by kind: what each asks is given by acceptance. Assumes nothing.
-use mathlib.Core.Path.{refl, ap}
-use Rattle.rules.specs.Step.{keepingBlock}
-use Rattle.rules.proofs.Accepted.{passed, sound-of, depth-above}
-use Rattle.carry.proofs.Accepted.{caller-slot, caller-slotted, caller-usable, readable}
+-- `carry::carry_out` meets its contract, kind by kind. Assumes nothing.
+use mathlib.Core.Path.{ap}
+use Rattle.parts.specs.Step.{keepingBlock}
 use borrow.Author.Needs.{needs}
 use Rattle.carry.proofs.carry_out.Statement.{statement}
 use Rattle.carry.proofs.carry_out.Tie as tie
 
 enter-requires : tie.Need-enter-requires
-enter-requires c κs = sound-of _ _ _ (c .before .before .before .before .pre) .core .limits .depth-most
+enter-requires c κs = rw (c .enum-told .given .1) at (c .before .before .before .before .before .pre)
 
 exit-requires : tie.Need-exit-requires
-exit-requires c κs = depth-above _ _ _ (rw (c .enum-told2 .given .1) at (c .before .before .before .before .pre)) refl
+exit-requires c κs = rw (c .enum-told2 .given .1) at (c .before .before .before .before .before .pre)
 
 read-requires : tie.Need-read-requires
-read-requires c κs = readable _ _ _ (rw (c .before .c .given .1) at (c .before .before .before .before .before .pre))
+read-requires c κs = rw (c .before .c .given .1) at (c .before .before .before .before .before .before .pre)
 
 request-requires : tie.Need-request-requires
-request-requires c κs = rw (c .before .before .c2 .given .1) at (c .before .before .before .before .before .before .pre)
+request-requires c κs = rw (c .before .before .c2 .given .1) at (c .before .before .before .before .before .before .before .pre)
 
 finish-wait-requires : tie.Need-finish-wait-requires
-finish-wait-requires c κs =
-    let a = rw (c .before .enum-told4 .given .1) at (c .before .before .before .before .before .pre) in
-    let p = passed _ _ _ a in
-    (caller-slot _ _ _ a, caller-slotted _ (p .facts), caller-usable _ (p .facts) _ (p .fits refl))
+finish-wait-requires c κs = rw (c .before .enum-told4 .given .1) at (c .before .before .before .before .before .before .pre)
 
 interrupt-requires : tie.Need-interrupt-requires
-interrupt-requires c κs = rw (c .before .before .before .c3 .given .1) at (c .before .before .before .before .before .before .before .pre)
+interrupt-requires c κs = rw (c .before .before .before .c3 .given .1) at (c .before .before .before .before .before .before .before .before .pre)
 
 returns : tie.Need-returns
 returns c = rw (c .before .enum-told .given .1, c .enter .ensures)

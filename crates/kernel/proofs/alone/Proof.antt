@@ -8,9 +8,9 @@ use Rattle.kernel.proofs.alone.Tie as tie
 
 returns : tie.Need-returns
 returns c =
-    λ room block. step-alone _ _ room block _ _ (c .before .before .before .before .before .pre) ∙ ap (λ (x : Result). moved x room block) (c .before .before .call .ensures)
+    λ room block. step-alone _ _ room block _ _ (c .before .before .before .before .before .before .pre) ∙ ap (λ (x : Result). moved x room block) (c .before .before .stepped .ensures)
 
 pub alone-spec : {M : Type 1} → statement M
 alone-spec =
     tie.close
-    (tie.spec (λ c. search needs) (λ c. search needs) (λ c κs. search needs) returns)
+    (tie.spec (λ c. search needs) (λ c. search needs) (λ c. search needs) (λ c κs. search needs) returns)

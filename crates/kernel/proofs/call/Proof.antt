@@ -1,24 +1,18 @@
--- `kernel::call` meets its contract: the verdict, and what it settles. Assumes nothing.
-use mathlib.Core.Path.{sym, ap, _∙_}
-use Rattle.rules.specs.Step.{settle, step}
+-- `kernel::call` meets its contract: of the two blocks the one that is lent. Assumes nothing.
+use mathlib.Core.Path.{sym, _∙_}
 use borrow.Author.Needs.{needs}
 use Rattle.kernel.proofs.call.Statement.{statement}
 use Rattle.kernel.proofs.call.Tie as tie
 
-carry-out-requires : tie.Need-carry-out-requires
-carry-out-requires c κs = sym (c .before .before .before .before .judge-call .ensures) ∙ c .before .before .enum-told .given .1
-
 returns : tie.Need-returns
-unfolding step
 returns c =
-    ap (settle (c .before .before .before .before .before .before .before .before .before .before .before .before .args .k) (c .before .before .before .before .before .before .before .before .before .before .before .before .args .room .now) (c .before .before .before .before .before .before .before .before .before .before .before .before .args .block .now) (c .before .before .before .before .before .before .before .before .before .before .before .before .args .c)) (sym (c .before .before .before .before .before .before .before .before .before .judge-call .ensures) ∙ c .before .before .before .before .before .before .before .enum-told .given .1) ∙ c .before .before .before .before .carry-out .ensures
+    rw (sym (c .before .before .before .before .before .before .before .before .is-write .ensures) ∙ c .before .before .before .before .before .before .before .if1 .taken) at (c .before .before .before .stepped .ensures)
 
 returns-2 : tie.Need-returns-2
-unfolding step
 returns-2 c =
-    ap (settle (c .before .before .before .before .before .before .args .k) (c .before .before .before .before .before .before .args .room .now) (c .before .before .before .before .before .before .args .block .now) (c .before .before .before .before .before .before .args .c)) (sym (c .before .before .before .judge-call .ensures) ∙ c .before .v .given .1)
+    rw (sym (c .before .before .before .before .before .before .before .before .before .is-write .ensures) ∙ c .before .before .before .before .before .before .before .before .if1 .left) at (c .before .before .before .before .stepped2 .ensures)
 
 pub call-spec : {M : Type 1} → statement M
 call-spec =
     tie.close
-    (tie.spec (λ c κs. search needs) (λ c. search needs) carry-out-requires (λ c. search needs) (λ c. search needs) (λ c. search needs) returns returns-2)
+    (tie.spec (λ c κs. search needs) (λ c. search needs) (λ c κs. search needs) (λ c. search needs) (λ c. search needs) returns (λ c. search needs) (λ c κs. search needs) (λ c. search needs) (λ c. search needs) returns-2)

@@ -8,9 +8,9 @@ use Rattle.kernel.proofs.with_room.Tie as tie
 
 returns : tie.Need-returns
 returns c =
-    λ block. step-room _ _ _ block _ (c .before .before .before .before .before .before .before .pre) ∙ ap (λ (x : Result). moved x (x .room) block) (c .before .before .before .call .ensures)
+    λ block. step-room _ _ _ block _ (c .before .before .before .before .before .before .before .before .pre) ∙ ap (λ (x : Result). moved x (x .room) block) (c .before .before .before .stepped .ensures)
 
 pub with-room-spec : {M : Type 1} → statement M
 with-room-spec =
     tie.close
-    (tie.spec (λ c. search needs) (λ c κs. search needs) (λ c. search needs) returns)
+    (tie.spec (λ c. search needs) (λ c. search needs) (λ c κs. search needs) (λ c. search needs) returns)

@@ -1,0 +1,3 @@
+pub mod PutBack
+pub mod Requests
+pub mod Finished
