@@ -8,6 +8,10 @@ use record::Wait;
 use ring::End;
 use rules::Outcome;
 
+fn after(o: Outcome) -> Kernel {
+    o.kernel
+}
+
 fn fresh(processes: u32) -> Kernel {
     let s = Setup {
         mode: 0,
@@ -40,11 +44,6 @@ fn all_waiting(wait: Wait, waiters: u32) -> Kernel {
     k
 }
 
-fn entered(k: Kernel) -> Kernel {
-    let o = kernel::enter(k);
-    o.kernel
-}
-
 fn prepared(kind: u8) -> Kernel {
     if kind == b's' {
         return all_waiting(
@@ -59,61 +58,41 @@ fn prepared(kind: u8) -> Kernel {
         return all_waiting(Wait::Sleep { limited: true }, 0);
     }
     if kind == b'2' {
-        return entered(fresh(2));
+        return after(kernel::enter(fresh(2)));
     }
     if kind == b'b' {
-        return entered(fresh(32));
+        return after(kernel::enter(fresh(32)));
     }
     fresh(32)
 }
 
 // One turn: r a reading; e enter and exit; w wait, signal and finish; l lock and unlock; p push and pop; b a block of 64 written and read; s a signal with
-// 31 waiters, of the record as it was; t and 2 a tick at 32 and at 2 processes.
-fn turn(kind: u8, k: Kernel, room: &mut [u32], block: &mut [u32]) -> Outcome {
+// 31 waiters; t and 2 a tick at 32 and at 2 processes.
+fn turn(kind: u8, k: Kernel, room: &mut [u32], block: &mut [u32]) -> Kernel {
     match kind {
-        b'r' => {
-            return kernel::ready_map(k);
-        }
-        b'e' => {
-            let inside = kernel::enter(k);
-            let now = inside.kernel;
-            return kernel::exit(now);
-        }
+        b'r' => after(kernel::ready_map(k)),
+        b'e' => after(kernel::exit(after(kernel::enter(k)))),
         b'w' => {
-            let waits = kernel::wait(k, 0, 0);
-            let now = waits.kernel;
-            let signals = kernel::signal(now, 0);
-            let then = signals.kernel;
-            return kernel::finish_wait(then, room);
+            let waits = after(kernel::wait(k, 0, 0));
+            let signals = after(kernel::signal(waits, 0));
+            after(kernel::finish_wait(signals, room))
         }
-        b'l' => {
-            let locks = kernel::lock(k, 0, 0);
-            let now = locks.kernel;
-            return kernel::unlock(now, 0);
-        }
+        b'l' => after(kernel::unlock(after(kernel::lock(k, 0, 0)), 0)),
         b'p' => {
-            let pushes = kernel::push(k, room, 0, 7, End::Back);
-            let now = pushes.kernel;
-            return kernel::pop(now, room, 0, End::Front, 0);
+            let pushed = after(kernel::push(k, room, 0, 7, End::Back));
+            after(kernel::pop(pushed, room, 0, End::Front, 0))
         }
         b'b' => {
-            let writes = kernel::write_interrupt(k, room, 3, &*block);
-            let now = writes.kernel;
-            return kernel::read_interrupt(now, room, 3, block);
+            let written = after(kernel::write_interrupt(k, room, 3, &*block));
+            after(kernel::read_interrupt(written, room, 3, block))
         }
         b's' => {
-            let signals = kernel::signal_interrupt(k, 0);
-            let woken = signals.kernel;
+            let woken = after(kernel::signal_interrupt(k, 0));
             let mut same = k;
             same.ticks = woken.ready;
-            return Outcome {
-                answer: signals.answer,
-                kernel: same,
-            };
+            same
         }
-        _ => {
-            return kernel::tick(k);
-        }
+        _ => after(kernel::tick(k)),
     }
 }
 
@@ -123,8 +102,7 @@ fn run(kind: u8) -> Kernel {
     let mut k = prepared(kind);
     let turns: u32 = 1000000;
     for i in 0..turns {
-        let o = turn(kind, k, &mut room, &mut block);
-        k = o.kernel;
+        k = turn(kind, k, &mut room, &mut block);
     }
     k
 }
