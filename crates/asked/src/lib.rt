@@ -1,4 +1,6 @@
 // Which command a record of the replay program is (REPLAY, Input words): the words that the trace program does not have. The others are the caller's to try.
+#![tactic(auto)]
+
 ghost use Rattle.std.specs.Prelude.{◌≡◌, cond};
 ghost use Rattle.text.specs.Ascii.{same as same_text};
 ghost use Rattle.asked.specs.Table.{picked, checked as checked_by};
@@ -17,7 +19,7 @@ pub mod split;
 pub mod values;
 
 // A field of the kernel record and what it becomes; `at` is the slot.
-#[derive(Drop)]
+#[derive(Clone, Copy)]
 pub enum Poke {
     Processes(u32),
     Flags(u32),
@@ -43,7 +45,7 @@ pub enum Poke {
 }
 
 // `Unreadable` is one of the words with fields that are not as they should be, `Other` is none of the words.
-#[derive(Drop)]
+#[derive(Clone, Copy)]
 pub enum Asked {
     Setup {
         setup: Setup,

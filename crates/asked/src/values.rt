@@ -7,7 +7,7 @@ use maps::Number;
 use record::{Owner, Wait};
 use ring::End;
 
-#[derive(Drop)]
+#[derive(Clone, Copy)]
 pub enum WaitRead {
     Is(Wait),
     None,

@@ -1,4 +1,6 @@
 // A call judged and carried out over its parts. What each accepted call asks of the parts, the room and the numbers is given by the verdict.
+#![tactic(auto)]
+
 ghost use Rattle.std.specs.Prelude.{◌≡◌, ◌≤◌, true, length, ◌==◌};
 ghost use Rattle.room.specs.Room.{offset};
 ghost use Rattle.rules.specs.Calls.{named_by, owner_named};

@@ -1,4 +1,6 @@
 // What a call changed: the fields that differ between two records, rooms or blocks, written as the replay program prints them.
+#![tactic(auto)]
+
 ghost use Rattle.std.specs.Prelude.{◌≡◌, ◌+◌, ◌≤◌, length};
 ghost use Rattle.text.specs.Put.{Put};
 ghost use Rattle.changes.specs.Changes.{changes};

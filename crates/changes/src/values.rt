@@ -10,7 +10,7 @@ use ring::End;
 use text::output;
 
 // A wait as numbers, 0 for a part that it has not: so two of them are compared without a table of cases.
-#[derive(Drop)]
+#[derive(Clone, Copy)]
 struct Parts {
     kind: u32,
     at: u32,

@@ -5,7 +5,7 @@ ghost use Rattle.changes.specs.Words.{word_at, each_word, named_words, word_chan
 
 use crate::fields;
 
-#[derive(Drop)]
+#[derive(Clone, Copy)]
 pub enum Words {
     Room,
     Block,

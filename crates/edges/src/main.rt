@@ -1,4 +1,6 @@
 // The edges of the leaf crates, run and compared with what document 01 says of them (expected output: `stdout`, written from the document).
+#![tactic(auto)]
+
 mod channels;
 mod processes;
 mod say;

@@ -1,4 +1,6 @@
 // Whether a call is accepted: the refusal table, row by row (01, Refusal numbers). A row looks at small values and at the call, never at the whole record.
+#![tactic(auto)]
+
 ghost use Rattle.std.specs.Prelude.{◌≡◌, true, ◌<◌, ◌≤◌, eqb};
 ghost use Rattle.room.specs.Room.{offset};
 ghost use Rattle.rules.specs.Calls.{named_by, owner_named};

@@ -1,5 +1,7 @@
 // The kernel's calls. `stepped` judges and carries out any call; every public function is one call, `call` any. None has a `requires`: every record, number
 // and buffer is accepted, and what can't be done is refused by number with everything unchanged.
+#![tactic(auto)]
+
 ghost use Rattle.std.specs.Prelude.{◌≡◌, false};
 ghost use Rattle.rules.specs.Calls.{needs_room, is_interrupt};
 ghost use Rattle.rules.specs.Answers.{said};

@@ -1,18 +1,20 @@
 // Process maps: 32-bit words in which process p has the tag 2^p (01, The kernel record; manual 3.3.4, order 0).
 // Every operation is a mask: no loop, no branch, constant time.
+#![tactic(auto)]
+
 ghost use Rattle.std.specs.Prelude.{◌≡◌, ◌^◌, ◌<◌, ◌≤◌, bit_or, nat_lt};
 ghost use Rattle.maps.specs.Maps.{has, minus, meets, everyone, lowest, lowest_bit, number_of, wake_all, wake_one};
 
 // A process by its number. The manual keeps priorities and tags apart (6.2.1), and so do these two types: neither passes for the other.
-#[derive(Drop)]
+#[derive(Clone, Copy)]
 pub struct Number(pub u32);
 
 // A process by its tag.
-#[derive(Drop)]
+#[derive(Clone, Copy)]
 pub struct Tag(pub u32);
 
 // What waking does: the ready map then, what the service map keeps, and the map of those who were woken.
-#[derive(Drop)]
+#[derive(Clone, Copy)]
 pub struct Wake {
     pub ready: u32,
     pub map: u32,

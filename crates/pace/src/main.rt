@@ -1,4 +1,6 @@
 // How long a call takes: a million turns of one kind of call, by the letter that is given. `tests/pace` runs it, takes the time and prints nanoseconds.
+#![tactic(auto)]
+
 use libc::STDOUT_FILENO;
 use maps::Number;
 use record::{Kernel, Process, Setup, Wait};

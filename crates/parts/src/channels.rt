@@ -10,14 +10,14 @@ use ring::{Channel, End};
 use rules::Answer;
 
 // A word that was popped, and the parts then.
-#[derive(Drop)]
+#[derive(Clone, Copy)]
 pub struct Popped {
     pub word: u32,
     pub parts: Parts,
 }
 
 // How many words a block call moved, and the parts then.
-#[derive(Drop)]
+#[derive(Clone, Copy)]
 pub struct Worked {
     pub words: u32,
     pub parts: Parts,

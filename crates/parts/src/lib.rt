@@ -1,5 +1,7 @@
 // What a call works on, as small values: the numbers of the record and one slot of each of its tables. The calls over them, with no array and no record in
 // hand, so that the record itself is stored to in one place only.
+#![tactic(auto)]
+
 use maps::Number;
 use record::{Flag, Mutex, Process};
 use ring::Channel;
@@ -14,7 +16,7 @@ pub mod processes;
 pub mod spots;
 
 // Which slots a call works on; 0 where it works on none of a table.
-#[derive(Drop)]
+#[derive(Clone, Copy)]
 pub struct Spot {
     pub process: u32,
     pub flag: u32,
@@ -22,7 +24,7 @@ pub struct Spot {
     pub channel: u32,
 }
 
-#[derive(Drop)]
+#[derive(Clone, Copy)]
 pub struct Parts {
     pub mode: u32,
     pub depth: u32,
@@ -36,7 +38,7 @@ pub struct Parts {
 }
 
 // An answer, and the parts then.
-#[derive(Drop)]
+#[derive(Clone, Copy)]
 pub struct Did {
     pub answer: Answer,
     pub parts: Parts,

@@ -1,5 +1,7 @@
 // The trace program (01, Trace program): reads records from the file that its first argument names, or from standard input where there is none, to the end,
 // and writes the header and a line for each record but the first.
+#![tactic(auto)]
+
 ghost use mathlib.Core.Path.{◌≡◌};
 ghost use Prim.Native.Nat.{◌*◌, ◌≤◌};
 ghost use lib.ListN.{length};
@@ -31,7 +33,7 @@ fn again(t: Trace) -> Trace
     next
 }
 
-#[derive(Drop)]
+#[derive(Clone, Copy)]
 struct Went {
     more: bool,
     trace: Trace,

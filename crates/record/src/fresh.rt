@@ -8,13 +8,13 @@ use maps::Number;
 use ring::Channel;
 
 // What setup answers: done, or refusal 14.
-#[derive(Drop)]
+#[derive(Clone, Copy)]
 pub enum Begun {
     Done,
     OutsideLimits,
 }
 
-#[derive(Drop)]
+#[derive(Clone, Copy)]
 pub struct Fresh {
     pub answer: Begun,
     pub kernel: Kernel,

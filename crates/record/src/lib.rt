@@ -1,6 +1,8 @@
 // The kernel record (01, The kernel record): a struct by value that holds arrays of small process, flag, mutex and channel structs.
 // Numbers that can stand wrong in a damaged record (mode, counts, depth, numbers of processes and services) are plain numbers:
 // `soundness::is_sound` says whether they are right. Slots beyond the counts are zeros at setup and never looked at.
+#![tactic(auto)]
+
 use maps::Number;
 use ring::{Channel, End};
 
@@ -8,7 +10,7 @@ pub mod fresh;
 pub mod soundness;
 
 // An open wait. All but a push remember whether they are limited.
-#[derive(Drop)]
+#[derive(Clone, Copy)]
 pub enum Wait {
     Nothing,
     Sleep { limited: bool },
@@ -18,32 +20,32 @@ pub enum Wait {
     Pop { at: u32, end: End, limited: bool },
 }
 
-#[derive(Drop)]
+#[derive(Clone, Copy)]
 pub enum Owner {
     Nobody,
     Process(Number),
 }
 
-#[derive(Drop)]
+#[derive(Clone, Copy)]
 pub struct Process {
     pub counter: u16,
     pub wait: Wait,
 }
 
-#[derive(Drop)]
+#[derive(Clone, Copy)]
 pub struct Flag {
     pub on: bool,
     pub waiters: u32,
 }
 
-#[derive(Drop)]
+#[derive(Clone, Copy)]
 pub struct Mutex {
     pub owner: Owner,
     pub waiters: u32,
 }
 
 // What setup fixes for good. Mode 0 is direct, mode 1 deferred.
-#[derive(Drop)]
+#[derive(Clone, Copy)]
 pub struct Setup {
     pub mode: u32,
     pub processes: u32,
@@ -52,7 +54,7 @@ pub struct Setup {
     pub channels: u32,
 }
 
-#[derive(Drop)]
+#[derive(Clone, Copy)]
 pub struct Kernel {
     pub setup: Setup,
     pub depth: u32,

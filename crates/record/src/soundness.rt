@@ -11,7 +11,7 @@ use maps::Number;
 use ring::Channel;
 
 // What rules 3 to 5 ask of one wait, and the slot of its map: flags from 0, mutexes from 8, readers from 16, writers from 20; 24 for none.
-#[derive(Drop)]
+#[derive(Clone, Copy)]
 struct Class {
     waits: bool,
     sleeps: bool,
@@ -21,7 +21,7 @@ struct Class {
 }
 
 // The same of all processes, a bit each; `rests` are those with counter 0.
-#[derive(Drop)]
+#[derive(Clone, Copy)]
 struct Tally {
     waits: u32,
     sleeps: u32,
@@ -31,7 +31,7 @@ struct Tally {
 }
 
 // Of the service maps: who is in any, who is in one that isn't its wait's; and whether owners and channels are as they should be.
-#[derive(Drop)]
+#[derive(Clone, Copy)]
 struct Seen {
     any: u32,
     stray: u32,

@@ -1,15 +1,17 @@
 // One channel's part of the room: a ring of `capacity` words (01, Room). The part starts at the channel's offset and may run on past its
 // own words, into the next channel's: nothing here touches those. A put and a take are constant time, a block is one pass over its words.
+#![tactic(auto)]
+
 ghost use Rattle.std.specs.Prelude.{◌≡◌, ◌+◌, ◌%◌, ◌<◌, ◌≤◌, min, length, get_or, set};
 ghost use Rattle.ring.specs.Ring.{Fits, Lent, place, put_place, gained, take_place, taken, grown, lifted, put_words, read_words, fitting, readable};
 
-#[derive(Drop)]
+#[derive(Clone, Copy)]
 pub enum End {
     Front,
     Back,
 }
 
-#[derive(Drop)]
+#[derive(Clone, Copy)]
 pub struct Channel {
     pub capacity: u32,
     pub first: u32,
@@ -19,14 +21,14 @@ pub struct Channel {
 }
 
 // A word that was taken, and the channel without it.
-#[derive(Drop)]
+#[derive(Clone, Copy)]
 pub struct Taken {
     pub word: u32,
     pub channel: Channel,
 }
 
 // How many words were written or read, and the channel then.
-#[derive(Drop)]
+#[derive(Clone, Copy)]
 pub struct Moved {
     pub words: u32,
     pub channel: Channel,

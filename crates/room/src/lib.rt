@@ -1,5 +1,7 @@
 // The room: one lent slice of words in which the channels' parts follow each other in channel order (01, The kernel record). A channel call finds its
 // part's offset once and lends the mutable part of the room that starts there; what the leaf did to the part is said here of the whole room.
+#![tactic(auto)]
+
 ghost use Rattle.std.specs.Prelude.{◌≡◌, ◌+◌, ◌<◌, ◌≤◌, length, get_or, set};
 ghost use Rattle.ring.specs.Ring.{put_place, gained, take_place, taken, grown, lifted, put_words, read_words, fitting, readable};
 ghost use Rattle.room.specs.Room.{channel_in, offset, There, Starts};

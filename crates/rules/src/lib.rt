@@ -1,16 +1,18 @@
 // The calls of the kernel and their answers, as types (01, Calls and their steps). No code: what each call does is said in specs/.
+#![tactic(auto)]
+
 use maps::{Number, Tag};
 use record::{Kernel, Owner, Setup, Wait};
 use ring::End;
 
 // A process can be named by its number or by its tag (6.2.1).
-#[derive(Drop)]
+#[derive(Clone, Copy)]
 pub enum Name {
     Number(Number),
     Tag(Tag),
 }
 
-#[derive(Drop)]
+#[derive(Clone, Copy)]
 pub enum Reading {
     Running,
     Next,
@@ -23,7 +25,7 @@ pub enum Reading {
 }
 
 // Process calls but finish, made by the running process.
-#[derive(Drop)]
+#[derive(Clone, Copy)]
 pub enum Request {
     Sleep { limit: u16 },
     Wait { flag: u32, limit: u16 },
@@ -39,7 +41,7 @@ pub enum Request {
     Force { process: Name },
 }
 
-#[derive(Drop)]
+#[derive(Clone, Copy)]
 pub enum Interrupt {
     Tick,
     Signal { flag: u32 },
@@ -48,7 +50,7 @@ pub enum Interrupt {
     Read { channel: u32 },
 }
 
-#[derive(Drop)]
+#[derive(Clone, Copy)]
 pub enum Call {
     Enter,
     Exit,
@@ -60,7 +62,7 @@ pub enum Call {
 }
 
 // Numbered 1 to 15 in document 01.
-#[derive(Drop)]
+#[derive(Clone, Copy)]
 pub enum Refusal {
     NotSound,
     RoomLength,
@@ -79,13 +81,13 @@ pub enum Refusal {
     Unreadable,
 }
 
-#[derive(Drop)]
+#[derive(Clone, Copy)]
 pub enum Verdict {
     Accepted,
     Refused(Refusal),
 }
 
-#[derive(Drop)]
+#[derive(Clone, Copy)]
 pub enum Answer {
     Done,
     Waiting,
@@ -95,7 +97,7 @@ pub enum Answer {
     Refused(Refusal),
 }
 
-#[derive(Drop)]
+#[derive(Clone, Copy)]
 pub struct Outcome {
     pub answer: Answer,
     pub kernel: Kernel,
@@ -103,7 +105,7 @@ pub struct Outcome {
 
 // What the refusal table looks at: soundness, whether the room has the right length, the setup, depth, running, next, the caller's open wait, and the owner
 // of the mutex that is named.
-#[derive(Drop)]
+#[derive(Clone, Copy)]
 pub struct Seen {
     pub sound: bool,
     pub fits: bool,
@@ -116,7 +118,7 @@ pub struct Seen {
 }
 
 // What a call names.
-#[derive(Drop)]
+#[derive(Clone, Copy)]
 pub enum Named {
     Nothing,
     Flag(u32),

@@ -1,4 +1,6 @@
 // Bytes in and out: records that CRLF ends, their fields, plain decimals, and text put into a lent slice.
+#![tactic(auto)]
+
 pub mod fields;
 pub mod numbers;
 pub mod output;

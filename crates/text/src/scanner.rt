@@ -3,20 +3,20 @@ ghost use Rattle.std.specs.Prelude.{◌≡◌, ◌-◌, ◌≤◌, ◌<◌, leng
 ghost use Rattle.text.specs.Scan.{fed, fed_line, grown, kept, advanced};
 
 // `len` counts the record's bytes, a CR too, and stops at 66; `cr` says that the last one is a CR.
-#[derive(Drop)]
+#[derive(Clone, Copy)]
 pub struct Scan {
     pub len: usize,
     pub cr: bool,
 }
 
-#[derive(Drop)]
+#[derive(Clone, Copy)]
 pub struct Fed {
     pub ended: bool,
     pub scan: Scan,
 }
 
 // `at` is the place past the last byte that was taken.
-#[derive(Drop)]
+#[derive(Clone, Copy)]
 pub struct Taken {
     pub at: usize,
     pub fed: Fed,

@@ -228,7 +228,7 @@ fn in_fields(word: &[u8], a: &[u8], b: &[u8]) -> Command
 }
 
 // A record's command, and where its word ends.
-#[derive(Drop)]
+#[derive(Clone, Copy)]
 pub struct Order {
     pub word: usize,
     pub command: Command,

@@ -1,4 +1,6 @@
 // The trace program's records in and lines out.
+#![tactic(auto)]
+
 use rules::Call;
 
 pub mod commands;
@@ -7,7 +9,7 @@ pub mod records;
 pub mod steps;
 
 // What a record asks for. A call has a block of `len` words that are all `item`.
-#[derive(Drop)]
+#[derive(Clone, Copy)]
 pub enum Command {
     Unreadable,
     Direct,

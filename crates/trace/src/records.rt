@@ -11,7 +11,7 @@ use record::Kernel;
 use text::scanner::{Fed, Scan, advance, kept_of};
 
 // The place past a record's line, and the kernel then.
-#[derive(Drop)]
+#[derive(Clone, Copy)]
 pub struct Done {
     pub put: usize,
     pub kernel: Kernel,
@@ -37,7 +37,7 @@ pub fn record_of(s: &[u8], room: &mut [u32; 2], out: &mut [u8], put: usize, k: K
 }
 
 // What is carried from chunk to chunk: the scanner, whether the header has ended, the place past the output so far, and the kernel.
-#[derive(Drop)]
+#[derive(Clone, Copy)]
 pub struct Trace {
     pub scan: Scan,
     pub begun: bool,
