@@ -1,0 +1,14 @@
+-- `record::soundness::see_flags` meets its contract. The invariant: the first i flags are seen. Assumes nothing.
+use Prim.Native.Nat.{ℕ, ◌≤◌, ◌-◌}
+use mathlib.Core.Path.{◌≡◌, ◌∙◌, ap}
+use native.Mathlib.Nat.{le_antisymm}
+use native.Mathlib.Numerals.{add-one}
+use Rattle.record.specs.Check.{over, flags_seen}
+use Rattle.std.proofs.Common.{rules}
+use Rattle.record.proofs.soundness.see_flags.Given as goal
+
+abbrev pub invariant-loop-i : goal.invariant-loop-i
+invariant-loop-i l = (l.i ≤ l.n) × (l.seen ≡ flags_seen l.flag l.waiting l.initial.seen l.i)
+
+abbrev pub decreases-loop-i : goal.decreases-loop-i
+decreases-loop-i l = l.n - l.i

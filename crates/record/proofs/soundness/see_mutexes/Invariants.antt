@@ -1,0 +1,14 @@
+-- `record::soundness::see_mutexes` meets its contract. The invariant: the first i mutexes are seen. Assumes nothing.
+use Prim.Native.Nat.{ℕ, ◌≤◌, ◌-◌}
+use mathlib.Core.Path.{◌≡◌, ◌∙◌, ap}
+use native.Mathlib.Nat.{le_antisymm}
+use native.Mathlib.Numerals.{add-one}
+use Rattle.record.specs.Check.{over, mutexes_seen}
+use Rattle.std.proofs.Common.{rules}
+use Rattle.record.proofs.soundness.see_mutexes.Given as goal
+
+abbrev pub invariant-loop-i : goal.invariant-loop-i
+invariant-loop-i l = (l.i ≤ l.n) × (l.seen ≡ mutexes_seen l.s.processes l.mutex l.waiting l.initial.seen l.i)
+
+abbrev pub decreases-loop-i : goal.decreases-loop-i
+decreases-loop-i l = l.n - l.i
