@@ -1,0 +1,8 @@
+-- `parts::flags::signal` meets its contract. Assumes nothing.
+use Rattle.parts.specs.Effects.{signalled}
+use Rattle.std.proofs.Common.{rules}
+use Rattle.parts.proofs.flags.signal.Goals as goal
+
+pub returns : goal.returns
+unfolding signalled
+returns c = simp c.wake_all-w.ensures
