@@ -13,7 +13,6 @@ use Rattle.rules.specs.declared.Call.TheVariants as call
 use Rattle.rules.specs.declared.Interrupt.TheVariants as interrupt
 use Rattle.rules.specs.declared.Reading.{Reading}
 use Rattle.rules.specs.declared.Reading.TheVariants as reading
-use Rattle.rules.specs.declared.Refusal.{Refusal}
 use Rattle.rules.specs.declared.Answer.{Answer}
 use Rattle.rules.specs.declared.Answer.TheVariants as answer
 use Rattle.rules.specs.declared.Named.TheVariants as named
@@ -34,7 +33,7 @@ use Rattle.parts.specs.Spots.{slots, below, inside}
 use Rattle.parts.specs.Taken.{taken, put_back}
 use Rattle.parts.specs.Effects as part
 use Rattle.parts.specs.Step as worked
-use Rattle.parts.proofs.PutBack.{spot, spot_at, of, kept, exited-back, signalled-back, unlocked-back, written_back, read_back}
+use Rattle.parts.proofs.PutBack.{spot, of, kept, exited-back, signalled-back, unlocked-back, written_back, read_back}
 use Rattle.parts.proofs.Requests.{requested-back}
 use Rattle.parts.proofs.Finished.{finish-back}
 use Rattle.carry.specs.Targets.{target, own_wait, spot_of, lent}

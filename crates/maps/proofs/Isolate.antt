@@ -1,5 +1,5 @@
 -- What the machine's words do: `a & !b` is minus, and `m & -m` is the lowest member alone. Assumes nothing.
-use Rattle.std.proofs.Common.{◌≡◌, ℕ, zero, suc, ◌+◌, ◌-◌, ◌*◌, ◌/◌, ◌%◌, ◌^◌, ◌<◌, ◌≤◌, min, Bool, true, false, cond, not, ◌&&◌, eqb, ◌⊎◌, sym, refl, ap, ◌∙◌, ap₂, inl, inr, ⊎_elim, lt_of_lt_of_le, eq-zero-or-pos, pow-suc, arith, pow_pos, pow_mono, ne_eqb}
+use Rattle.std.proofs.Common.{◌≡◌, ℕ, zero, suc, ◌+◌, ◌-◌, ◌*◌, ◌/◌, ◌%◌, ◌^◌, ◌<◌, ◌≤◌, min, Bool, false, cond, not, ◌&&◌, eqb, ◌⊎◌, sym, refl, ap, ◌∙◌, ap₂, inl, inr, lt_of_lt_of_le, eq-zero-or-pos, pow-suc, arith, pow_pos, pow_mono, ne_eqb}
 use mathlib.Core.Bool.{beq}
 use lib.Arith.{lt-one}
 use lib.Bits.{bit_and, and_step}
@@ -8,8 +8,8 @@ use lib.Pow.{pow-lt}
 use Rattle.maps.specs.Maps.{has, unless, minus, lowest, lowest_bit}
 use Rattle.maps.proofs.Truth.{taut, equal}
 use Rattle.maps.proofs.Members.{has-minus, has-zero, has-tag, has-through, minus-step, same}
-use Rattle.maps.proofs.Bounds.{minus-lt, member-lt}
-use Rattle.maps.proofs.Lowest.{lowest-has, lowest-lt, lowest-tag}
+use Rattle.maps.proofs.Bounds.{member-lt}
+use Rattle.maps.proofs.Lowest.{lowest-has, lowest-lt}
 
 -- ---- the complement: `a & !b`
 min-unless : (x y z : ℕ) → x < 2 → y < 2 → z ≡ 1 - y → min x z ≡ unless x y

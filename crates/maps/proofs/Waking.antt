@@ -2,7 +2,7 @@
 use Rattle.std.proofs.Common.{◌≡◌, ℕ, ◌^◌, ◌<◌, ◌≤◌, Bool, true, false, not, ◌&&◌, ◌||◌, eqb, sym, refl, ap, ◌∙◌}
 use mathlib.Core.Bool.{beq}
 use lib.Bits.{bit_and, bit_or, or_lt}
-use Rattle.maps.specs.Maps.{has, minus, lowest, lowest_bit, unready, woke, wake_all, wake_one}
+use Rattle.maps.specs.Maps.{has, lowest, unready, woke, wake_all, wake_one}
 use Rattle.maps.proofs.Truth.{taut, equal}
 use Rattle.maps.proofs.Members.{has-or, has-and, has-minus, has-zero, same}
 use Rattle.maps.proofs.Bounds.{minus-lt, member-pos}

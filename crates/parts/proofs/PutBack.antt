@@ -2,29 +2,22 @@
 -- put back as it was taken. Assumes nothing.
 use Prim.Native.Nat.{ℕ}
 use mathlib.Core.Path.{◌≡◌, refl, ap, ◌∙◌}
-use mathlib.Core.Bool.{Bool, true, false, cond, ◌&&◌}
-use mathlib.Core.List.{List}
+use mathlib.Core.Bool.{Bool, true, false, cond}
 use lib.Dec.{eqb}
 use lib.Seq.{set-get_or}
 use Rattle.maps.specs.declared.Number.{Number}
-use Rattle.ring.specs.declared.Channel.{Channel}
 use Rattle.ring.specs.declared.End.{End}
-use Rattle.ring.specs.Ring.{gained, taken as without}
 use Rattle.record.specs.declared.Kernel.{Kernel}
 use Rattle.record.specs.declared.Wait.{Wait}
 use Rattle.record.specs.declared.Wait.TheVariants.{Nothing, Sleep, Flag, Mutex, Push, Pop}
-use Rattle.record.specs.Record.{process_at, flag_at, mutex_at, channel_at}
-use Rattle.record.specs.Places.{place_of, limited}
+use Rattle.record.specs.Record.{process_at}
+use Rattle.record.specs.Places.{place_of}
 use Rattle.rules.specs.declared.Named.{Named}
 use Rattle.rules.specs.declared.Named.TheVariants as named
 use Rattle.rules.specs.declared.Answer.{Answer}
-use Rattle.rules.specs.declared.Answer.TheVariants as answer
 use Rattle.rules.specs.declared.Outcome.{Outcome}
-use Rattle.rules.specs.Blocks.{caller, caller_row, choose, opened, closed, again, left, is_limited}
+use Rattle.rules.specs.Blocks.{caller, choose, opened, closed, again, left}
 use Rattle.rules.specs.Effects as rule
-use Rattle.rules.specs.Finish as whole
-use Rattle.rules.specs.Refusals.{is_free}
-use Rattle.rules.proofs.Cond.{branches}
 use Rattle.parts.specs.declared.Parts.{Parts}
 use Rattle.parts.specs.declared.Spot.{Spot}
 use Rattle.parts.specs.declared.Did.{Did}
@@ -32,7 +25,6 @@ use Rattle.parts.specs.Spots.{slots, named_by_wait}
 use Rattle.parts.specs.Taken.{taken, put_back}
 use Rattle.parts.specs.Blocks as block
 use Rattle.parts.specs.Effects as part
-use Rattle.parts.specs.Finish as end
 
 -- ---- what is put back
 abbrev pub back : Kernel → Spot → Did → Outcome

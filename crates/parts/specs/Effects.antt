@@ -1,6 +1,6 @@
 -- What each accepted call does, but finish and the tick, over the parts: the rules of `Rattle.rules.specs.Effects`, word for word. The flag, the mutex
 -- and the channel are those that the call names. Channel calls are given the channels too, for where the parts of the room start.
-use Rattle.std.specs.Prelude.{ℕ, ◌+◌, ◌-◌, ◌^◌, Bool, false, cond, ◌||◌, List, eqb, get_or, set, length}
+use Rattle.std.specs.Prelude.{ℕ, ◌+◌, ◌-◌, ◌^◌, false, cond, ◌||◌, List, eqb, get_or, set, length}
 use Rattle.std.specs.Int.Bits.{bit_or}
 use Rattle.ring.specs.declared.Channel.{Channel}
 use Rattle.ring.specs.declared.End.{End}
@@ -9,7 +9,7 @@ use Rattle.record.specs.declared.Owner.TheVariants as owner
 use Rattle.record.specs.declared.Wait.TheVariants as wait
 use Rattle.room.specs.Room.{offset}
 use Rattle.rules.specs.declared.Answer.{Answer}
-use Rattle.rules.specs.declared.Answer.TheVariants.{Done, Waiting, TimedOut, Busy, Value, Refused}
+use Rattle.rules.specs.declared.Answer.TheVariants.{Done, Waiting, Busy, Value}
 use Rattle.rules.specs.declared.Reading.{Reading}
 use Rattle.rules.specs.declared.Reading.TheVariants as reading
 use Rattle.rules.specs.Refusals.{is_free}

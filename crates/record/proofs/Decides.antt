@@ -1,19 +1,17 @@
 -- What `is_sound` computes decides soundness: `checked` passes exactly for the records of which the facts `Sound` hold.
 -- Assumes the lengths of the tables, which the record's type gives.
-use Prim.Native.Nat.{ℕ, ◌-◌, ◌^◌, ◌<◌, ◌≤◌}
+use Prim.Native.Nat.{ℕ, ◌<◌}
 use mathlib.Core.Path.{◌≡◌, refl, sym, ap, ap₂, ◌∙◌}
-use mathlib.Core.Bool.{Bool, true, false, not, ◌&&◌, ◌||◌, and-eq-true_iff, true≢false, false≢true}
+use mathlib.Core.Bool.{Bool, true, false, not, ◌&&◌, and-eq-true_iff, true≢false, false≢true}
 use mathlib.Core.List.{List}
-use lib.Dec.{ltb, leb, eqb}
-use lib.ListN.{length, get_or}
-use borrow.Author.Tests.{ltb-true, lt-ltb, eqb-true, eq-eqb, not-true, not-false}
+use lib.Dec.{ltb}
+use borrow.Author.Tests.{ltb-true, lt-ltb, eqb-true, eq-eqb, not-false}
 use native.Mathlib.Omega.{arith}
-use Rattle.maps.specs.Maps.{has, everyone, lowest}
+use Rattle.maps.specs.Maps.{has}
 use Rattle.maps.proofs.Truth.{both}
 use Rattle.maps.proofs.Members.{has-zero, has-map-of}
 use Rattle.maps.proofs.Bounds.{member-lt, members-within, empty-none, none-empty}
 use Rattle.record.specs.declared.Kernel.{Kernel}
-use Rattle.record.specs.declared.Setup.{Setup}
 use Rattle.record.specs.declared.Wait.{Wait}
 use Rattle.record.specs.declared.Wait.TheVariants.{Nothing, Sleep, Flag, Mutex, Push, Pop}
 use Rattle.record.specs.declared.soundness.Tally.{Tally}
@@ -21,17 +19,17 @@ use Rattle.record.specs.declared.soundness.Seen.{Seen}
 use Rattle.record.specs.Words.{implies, all_below}
 use Rattle.record.specs.Limits.{channel_fits}
 use Rattle.record.specs.Record.{services, wait_of, count, idle, lengths, mutex_at, channel_at}
-use Rattle.record.specs.Places.{Place, nowhere, is_open, sleeps, limited, place_of, real_in, real, map_at, everywhere}
-use Rattle.record.specs.Sound.{is_ready, rests, in_its_map, in_no_map, within, user_owner, sound}
-use Rattle.record.specs.Facts.{Limits, Tables, Fine, Waits, Core, Sound, allowed}
+use Rattle.record.specs.Places.{Place, nowhere, is_open, sleeps, limited, place_of, real, map_at, everywhere}
+use Rattle.record.specs.Sound.{is_ready, rests, in_its_map, in_no_map, user_owner, sound}
+use Rattle.record.specs.Facts.{Limits, Sound, allowed}
 use Rattle.record.specs.Check.{Small, numbers_fit, slot_of, tally_of, waiting_of, start, flags_seen, mutexes_seen, readers_seen, writers_seen, all_seen, rest, checked}
 use Rattle.record.proofs.Logic.{facts, imp-iff, all-iff, same_test}
 use Rattle.record.proofs.Place.{places-to, places-from, closed-nowhere}
 use Rattle.record.proofs.Status as status
 use Rattle.record.proofs.Iff.{FineAt, channel-to, channel-from, sound-to, sound-from}
 use Rattle.record.proofs.Slots.{slot_same}
-use Rattle.record.proofs.Gathered.{slot_at, word_at, seen, waiting, any_seen, stray-seen, fine-seen, has_word}
-use Rattle.record.proofs.Masks.{keeps, keeps_at, none-broken, keeps-allowed}
+use Rattle.record.proofs.Gathered.{word_at, seen, waiting, any_seen, stray-seen, fine-seen, has_word}
+use Rattle.record.proofs.Masks.{keeps_at, none-broken, keeps-allowed}
 
 sleeps-nowhere : (w : Wait) → sleeps w ≡ true → place_of w ≡ nowhere
 sleeps-nowhere Nothing e = refl

@@ -1,24 +1,21 @@
 -- What the two passes of the check gather: for each slot the map of those who wait there; who is in any map; who stands in a map that isn't its
 -- wait's; and whether the tests passed. Assumes nothing.
-use Prim.Native.Nat.{ℕ, zero, suc, ◌+◌, ◌^◌, ◌<◌, ◌≤◌}
+use Prim.Native.Nat.{ℕ, zero, suc, ◌+◌, ◌^◌, ◌<◌}
 use mathlib.Core.Path.{◌≡◌, refl, sym, ap, ◌∙◌}
 use mathlib.Core.Bool.{Bool, true, false, not, ◌&&◌, ◌||◌, beq, cond, and_assoc, and-true, false≢true}
 use mathlib.Core.List.{List}
 use lib.Bits.{bit_or, or_zero_r}
 use lib.Dec.{ltb, eqb}
-use lib.ListN.{get_or, set, length, replicate, length-set, length-replicate}
+use lib.ListN.{get_or, set, length, length-set, length-replicate}
 use lib.Seq.{get_or-set_same, get_or-set_other}
 use borrow.Author.Tests.{eqb-true, eqb-false}
 use native.Mathlib.Nat.{zero-add}
 use native.Mathlib.Omega.{arith}
 use Rattle.maps.specs.Maps.{has, minus, map_of}
 use Rattle.maps.proofs.Truth.{taut, equal}
-use Rattle.maps.proofs.Members.{has-or, has-minus, has-zero, has-map-of, split-eq}
-use Rattle.ring.specs.declared.Channel.{Channel}
+use Rattle.maps.proofs.Members.{has-or, has-minus, has-zero, has-map-of}
 use Rattle.record.specs.declared.Setup.{Setup}
 use Rattle.record.specs.declared.Process.{Process}
-use Rattle.record.specs.declared.Flag.{Flag}
-use Rattle.record.specs.declared.Mutex.{Mutex}
 use Rattle.record.specs.declared.soundness.Seen.{Seen}
 use Rattle.record.specs.Words.{implies, all_below}
 use Rattle.record.specs.Limits.{channel_fits}
@@ -27,7 +24,7 @@ use Rattle.record.specs.Places.{Place, nowhere, at_flag, at_mutex, at_readers, a
 use Rattle.record.specs.Sound.{user_owner}
 use Rattle.record.specs.Check.{Small, slot_of, row_at, waiting_of, over, all_seen}
 use Rattle.record.proofs.Started.{slot-empty}
-use Rattle.record.proofs.Slots.{slot_lt, slot-own}
+use Rattle.record.proofs.Slots.{slot_lt}
 
 -- ---- who waits where
 abbrev pub slot_at : Setup → List Process → ℕ → ℕ

@@ -1,23 +1,21 @@
 -- The test `sound` and the facts `Sound` say the same. Assumes nothing.
-use Prim.Native.Nat.{ℕ, ◌-◌, ◌^◌, ◌<◌, ◌≤◌}
+use Prim.Native.Nat.{ℕ, ◌^◌}
 use mathlib.Core.Path.{◌≡◌, refl, sym, ap, ◌∙◌}
 use mathlib.Core.Logic.{◌↔◌}
-use mathlib.Core.Bool.{Bool, true, false, not, ◌&&◌, ◌||◌, and-eq-true_iff, false≢true, true≢false}
-use lib.Dec.{ltb, leb, eqb}
+use mathlib.Core.Bool.{Bool, true, false, not, ◌&&◌, ◌||◌, and-eq-true_iff, false≢true}
 use borrow.Author.Tests.{ltb-true, lt-ltb}
 use native.Mathlib.Omega.{arith}
-use Rattle.maps.specs.Maps.{has, lowest}
+use Rattle.maps.specs.Maps.{has}
 use Rattle.maps.proofs.Truth.{both}
 use Rattle.ring.specs.declared.Channel.{Channel}
 use Rattle.ring.specs.Ring.{Fits}
 use Rattle.record.specs.declared.Kernel.{Kernel}
-use Rattle.record.specs.declared.Setup.{Setup}
 use Rattle.record.specs.Words.{implies, all_below}
-use Rattle.record.specs.Limits.{counts_fit, channel_fits}
+use Rattle.record.specs.Limits.{channel_fits}
 use Rattle.record.specs.Record.{process_at, mutex_at, channel_at, wait_of, count, idle, lengths}
-use Rattle.record.specs.Places.{Place, is_open, sleeps, limited, place_of, real_in, real, map_at, every_map, same_place}
+use Rattle.record.specs.Places.{Place, is_open, sleeps, limited, place_of, real_in, real, map_at, same_place}
 use Rattle.record.specs.Sound.{is_ready, rests, in_its_map, in_no_map, in_no_map_but, within, rule1, rule2, rule3, rule4, rule5, rule6, rule7, user_owner, sound}
-use Rattle.record.specs.Facts.{Limits, Tables, Fine, Waits, Core, Sound}
+use Rattle.record.specs.Facts.{Fine, Sound}
 use Rattle.record.proofs.Logic.{facts, all-iff, imp-iff}
 use Rattle.record.proofs.Place.{same-eq, same_self, places-to, places-from, closed-out}
 use Rattle.record.proofs.Status as status

@@ -1,6 +1,6 @@
 -- Rules 3 to 5 of all processes at once: the mask of those who break one is empty exactly if each of the n processes keeps them, where 'in its map'
 -- and 'in a service map' are both read off the union of the maps. Assumes nothing.
-use Prim.Native.Nat.{ℕ, zero, suc, ◌<◌}
+use Prim.Native.Nat.{ℕ, ◌<◌}
 use mathlib.Core.Path.{◌≡◌, refl, sym, ap, ◌∙◌}
 use mathlib.Core.Bool.{Bool, true, false, not, ◌&&◌, ◌||◌, beq}
 use mathlib.Core.List.{List}

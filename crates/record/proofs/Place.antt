@@ -1,14 +1,13 @@
 -- Places: two of one kind and one number are one; what holds of every real place; waits and places. Assumes nothing.
-use Prim.Native.Nat.{ℕ, zero, suc, ◌<◌}
+use Prim.Native.Nat.{ℕ, zero, suc}
 use mathlib.Core.Path.{◌≡◌, refl, sym, ap, ap₂, ◌∙◌}
-use mathlib.Core.Bool.{Bool, true, false, not, ◌&&◌, and-eq-true_iff, true≢false, false≢true}
-use lib.Dec.{ltb, eqb}
+use mathlib.Core.Bool.{Bool, true, false, and-eq-true_iff, true≢false, false≢true}
+use lib.Dec.{eqb}
 use borrow.Author.Tests.{eqb-true, eq-eqb, lt-ltb, ltb-true}
 use Rattle.maps.proofs.Truth.{and_l, and_r, both}
 use Rattle.record.specs.declared.Setup.{Setup}
 use Rattle.record.specs.declared.Wait.{Wait}
 use Rattle.record.specs.declared.Wait.TheVariants.{Nothing, Sleep, Flag, Mutex, Push, Pop}
-use Rattle.record.specs.Words.{all_below}
 use Rattle.record.specs.Places.{Place, nowhere, at_flag, at_mutex, at_readers, at_writers, kind_of, index_of, same_place, real_in, everywhere, is_open, sleeps, place_of}
 use Rattle.record.proofs.Logic.{all-iff}
 

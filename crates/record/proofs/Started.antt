@@ -1,27 +1,24 @@
 -- A fresh record within the limits is sound, for every setup; the record of all zeros is not. Assumes nothing.
-use Prim.Native.Nat.{ℕ, zero, suc, ◌-◌, ◌^◌, ◌<◌, ◌≤◌}
+use Prim.Native.Nat.{ℕ, zero, suc, ◌-◌, ◌<◌, ◌≤◌}
 use mathlib.Core.Path.{◌≡◌, refl, sym, ap, subst, ◌∙◌}
-use mathlib.Core.Bool.{Bool, true, false, not, ◌&&◌, ◌||◌, cond, and-eq-true_iff, false≢true}
-use mathlib.Core.List.{List, [], ◌∷◌}
-use lib.Dec.{ltb, leb, eqb}
-use lib.ListN.{get_or, replicate, length, length-replicate}
+use mathlib.Core.Bool.{Bool, true, false, cond, and-eq-true_iff, false≢true}
+use mathlib.Core.List.{List}
+use lib.Dec.{ltb}
+use lib.ListN.{get_or, replicate, length-replicate}
 use lib.Pow.{pow_pos}
 use borrow.Author.Tests.{lt-ltb, lt-leb}
-use native.Mathlib.Nat.{not-suc-le-zero}
 use native.Mathlib.Omega.{arith}
-use Rattle.maps.specs.Maps.{has, lowest, everyone}
+use Rattle.maps.specs.Maps.{has, everyone}
 use Rattle.maps.proofs.Members.{has-zero, has-everyone}
 use Rattle.maps.proofs.Bounds.{everyone-lt}
 use Rattle.maps.proofs.Lowest.{lowest-least}
-use Rattle.ring.specs.declared.Channel.{Channel}
 use Rattle.ring.specs.Ring.{Fits}
 use Rattle.record.specs.declared.Setup.{Setup}
 use Rattle.record.specs.declared.Process.{Process}
-use Rattle.record.specs.Limits.{counts_fit, capacity_fits}
-use Rattle.record.specs.Record.{Services, services, no_process, no_flag, no_mutex, no_channel}
-use Rattle.record.specs.Places.{Place, nowhere, at_flag, at_mutex, at_readers, at_writers, map_in, real_in, is_open, sleeps, limited, place_of}
+use Rattle.record.specs.Record.{services, no_process, no_flag, no_mutex, no_channel}
+use Rattle.record.specs.Places.{Place, nowhere, at_flag, at_mutex, at_readers, at_writers, map_in, real_in, is_open}
 use Rattle.record.specs.Sound.{user_owner, sound}
-use Rattle.record.specs.Facts.{Limits, Tables, Fine, Waits, Core, Sound, allowed}
+use Rattle.record.specs.Facts.{Limits, Fine, Sound}
 use Rattle.record.specs.Fresh.{zeros, start_channel, fresh, capacity_allowed, setup_fits}
 use Rattle.record.proofs.Logic.{facts}
 use Rattle.record.proofs.Iff.{sound-from}

@@ -1,6 +1,6 @@
 -- What `is_sound` computes, step by step: the words of the check, and nothing that a reader of the rules has to believe. That it decides `sound` is
 -- proved (proofs/Decides).
-use Rattle.std.specs.Prelude.{ℕ, zero, suc, ◌+◌, ◌-◌, ◌^◌, ◌<◌, ◌≤◌, Bool, true, false, not, cond, ◌&&◌, ◌||◌, List, ltb, leb, eqb, get_or, set, replicate}
+use Rattle.std.specs.Prelude.{ℕ, zero, suc, ◌+◌, ◌-◌, ◌^◌, ◌≤◌, Bool, true, false, not, cond, ◌&&◌, List, ltb, leb, eqb, get_or, set, replicate}
 use Rattle.std.specs.Int.Bits.{bit_and, bit_or}
 use Rattle.maps.specs.Maps.{has, minus, everyone, map_of, lowest}
 use Rattle.ring.specs.declared.Channel.{Channel}

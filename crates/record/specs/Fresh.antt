@@ -1,5 +1,5 @@
 -- Setup (01, A fresh record; refusal 14).
-use Rattle.std.specs.Prelude.{ℕ, Bool, true, false, cond, not, ◌&&◌, ◌||◌, List, [], ◌∷◌, ltb, leb, get_or, replicate}
+use Rattle.std.specs.Prelude.{ℕ, Bool, cond, ◌&&◌, ◌||◌, List, [], ◌∷◌, ltb, leb, get_or, replicate}
 use Rattle.ring.specs.declared.Channel.{Channel}
 use Rattle.maps.specs.Maps.{everyone}
 use Rattle.record.specs.declared.Kernel.{Kernel}

@@ -2,7 +2,6 @@
 use Rattle.std.specs.Prelude.{ℕ, ◌-◌, Bool, false, ◌&&◌, List, eqb, get_or, length}
 use Rattle.ring.specs.declared.Channel.{Channel}
 use Rattle.record.specs.declared.Kernel.{Kernel}
-use Rattle.record.specs.declared.Setup.{Setup}
 use Rattle.record.specs.declared.Process.{Process}
 use Rattle.record.specs.declared.Flag.{Flag}
 use Rattle.record.specs.declared.Mutex.{Mutex}

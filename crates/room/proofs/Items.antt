@@ -1,5 +1,5 @@
 -- The items of all channels: what a put, a take, a write and a read do to their own channel's, and that every other channel's stay. Assumes nothing.
-use Prim.Native.Nat.{ℕ, zero, suc, ◌+◌, ◌-◌, ◌<◌, ◌≤◌}
+use Prim.Native.Nat.{ℕ, zero, suc, ◌+◌, ◌<◌, ◌≤◌}
 use mathlib.Core.Path.{◌≡◌, refl, sym, ap, ◌∙◌}
 use mathlib.Core.Logic.{◌⊎◌, inl, inr, ◌≢◌}
 use mathlib.Core.List.{List, [], ◌∷◌, ◌++◌}
@@ -8,10 +8,9 @@ use native.Mathlib.Omega.{arith}
 use lib.ListN.{length, get_or, set, take}
 use lib.Seq.{get_or-set_same, get_or-set_other}
 use Rattle.ring.specs.declared.Channel.{Channel}
-use Rattle.ring.specs.declared.End.{End}
 use Rattle.ring.specs.declared.End.TheVariants.{Front, Back}
 use Rattle.ring.specs.Ring.{Fits, place, put_place, gained, take_place, taken, grown, lifted, put_words, items, items_of}
-use Rattle.ring.proofs.Places.{place-lt, put-place-lt}
+use Rattle.ring.proofs.Places.{place-lt}
 use Rattle.ring.proofs.Items.{items-other, items-put-back, items-put-front, items-put-words, items-take-front, items-take-back, items-read}
 use Rattle.record.specs.Record.{no_channel}
 use Rattle.room.specs.Room.{channel_in, offset, channel_items, There}

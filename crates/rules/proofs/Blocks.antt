@@ -13,7 +13,7 @@ use Rattle.ring.specs.declared.End.{End}
 use Rattle.ring.specs.Ring.{Fits, gained, taken}
 use Rattle.record.specs.declared.Kernel.{Kernel}
 use Rattle.record.specs.declared.Wait.{Wait}
-use Rattle.record.specs.Record.{Services, services, process_at, channel_at, count, idle, wait_of}
+use Rattle.record.specs.Record.{Services, services, process_at, channel_at, idle, wait_of}
 use Rattle.record.specs.Places.{Place, nowhere, at_flag, at_mutex, at_readers, at_writers, is_open, sleeps, limited, place_of, map_at, real}
 use Rattle.record.specs.Facts.{Core}
 use Rattle.record.proofs.Place.{sleeps-nowhere}

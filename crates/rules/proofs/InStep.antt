@@ -10,7 +10,6 @@ use Rattle.record.specs.declared.Setup.{Setup}
 use Rattle.record.specs.Sound.{sound}
 use Rattle.record.proofs.Iff.{sound-to}
 use Rattle.record.proofs.Started.{fresh-sound}
-use Rattle.rules.specs.declared.Call.{Call}
 use Rattle.rules.specs.Calls.{is_process, is_switch}
 use Rattle.rules.specs.Step.{Result, Given, Event, State, step_on, step, after, history}
 use Rattle.rules.specs.Deferred.{deferred, starting, switching, Offered, nothing, switch, other, process, as_direct, LowestIn, InStep, is_refused, SameEvent, SameSeen, call}

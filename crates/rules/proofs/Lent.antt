@@ -1,23 +1,18 @@
 -- A call that needs no room does the same whatever the room and the block; one that is no block call does the same whatever the block. Assumes nothing.
 use Prim.Native.Nat.{ℕ}
-use mathlib.Core.Path.{◌≡◌, refl, sym, ap, ◌∙◌}
-use mathlib.Core.Bool.{Bool, true, false, not, cond, ◌&&◌, true≢false, false≢true}
-use mathlib.Core.List.{List, []}
-use lib.Dec.{eqb}
+use mathlib.Core.Path.{◌≡◌, refl, ap, ◌∙◌}
+use mathlib.Core.Bool.{false, true≢false}
+use mathlib.Core.List.{List}
 use lib.ListN.{length}
 use Rattle.record.specs.declared.Kernel.{Kernel}
-use Rattle.room.specs.Room.{room_length}
 use Rattle.rules.specs.declared.Call.{Call}
 use Rattle.rules.specs.declared.Call.TheVariants.{Enter, Exit, Switch, Reading, Process, Finish, Interrupt}
-use Rattle.rules.specs.declared.Request.{Request}
 use Rattle.rules.specs.declared.Request.TheVariants as request
-use Rattle.rules.specs.declared.Interrupt.{Interrupt as InterruptT}
 use Rattle.rules.specs.declared.Interrupt.TheVariants as interrupt
 use Rattle.rules.specs.declared.Verdict.{Verdict}
 use Rattle.rules.specs.declared.Verdict.TheVariants.{Accepted, Refused}
-use Rattle.rules.specs.declared.Outcome.{Outcome}
 use Rattle.rules.specs.Calls.{is_interrupt, needs_room}
-use Rattle.rules.specs.Refusals.{verdict, first, table, seen}
+use Rattle.rules.specs.Refusals.{verdict}
 use Rattle.rules.specs.Step.{Result, settle, step}
 
 -- ---- the room

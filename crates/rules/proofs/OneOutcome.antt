@@ -11,7 +11,7 @@ use Rattle.rules.specs.declared.Refusal.{Refusal}
 use Rattle.rules.specs.declared.Refusal.TheVariants.{NotSound, RoomLength, InInterrupt, OutsideInterrupt, SwitchPending, IdleRuns, WaitOpen, NothingOpen, Missing, OwnedAlready, NotOwner, TooDeep, NonePending, OutsideLimits, Unreadable}
 use Rattle.rules.specs.declared.Outcome.{Outcome}
 use Rattle.rules.specs.Answers.{Said, done, waiting, timed_out, busy, value, refused, number, said}
-use Rattle.rules.specs.Step.{Result, step}
+use Rattle.rules.specs.Step.{Result}
 use Rattle.rules.specs.Promise.{Alone, WithRoom, WithBoth}
 
 -- ---- the document's words tell the answer

@@ -1,8 +1,7 @@
 -- What a call is: its kind, what it names, whether it needs the room (01, Calls and their steps; Refusal numbers).
-use Rattle.std.specs.Prelude.{ℕ, ◌-◌, Bool, true, false, ◌||◌, List, leb, get_or}
+use Rattle.std.specs.Prelude.{◌-◌, Bool, true, false, List, leb, get_or}
 use Rattle.maps.specs.declared.Number.{Number}
 use Rattle.maps.specs.Maps.{number_of}
-use Rattle.record.specs.declared.Kernel.{Kernel}
 use Rattle.record.specs.declared.Setup.{Setup}
 use Rattle.record.specs.declared.Mutex.{Mutex}
 use Rattle.record.specs.declared.Owner.{Owner}

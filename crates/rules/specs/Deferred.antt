@@ -6,7 +6,6 @@ use Rattle.record.specs.declared.Setup.{Setup}
 use Rattle.record.specs.Fresh.{fresh}
 use Rattle.rules.specs.declared.Call.{Call}
 use Rattle.rules.specs.declared.Call.TheVariants.{Enter, Exit, Switch, Reading, Process, Finish, Interrupt}
-use Rattle.rules.specs.declared.Reading.{Reading as ReadingT}
 use Rattle.rules.specs.declared.Reading.TheVariants as reading
 use Rattle.rules.specs.Answers.{Said, done, waiting, timed_out, busy, value, refused}
 use Rattle.rules.specs.Calls.{is_process, is_switch}

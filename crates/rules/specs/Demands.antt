@@ -13,7 +13,7 @@ use Rattle.rules.specs.Refusals.{Row, table, seen}
 use Rattle.rules.specs.Step.{Given, step, after, history}
 use Rattle.rules.specs.Promise.{Alone, WithRoom, WithBoth}
 use Rattle.rules.specs.Deferred.{direct, deferred, starting, Offered, InStep, SameSeen, is_refused}
-use Rattle.rules.specs.Sheet.{rows, Fault, none, first_fault}
+use Rattle.rules.specs.Sheet.{rows, none, first_fault}
 
 -- ---- 1. What can't be done gets a numbered refusal, given exactly when document 01 says, and the record, the room and the block stay unchanged
 abbrev pub RefusalsChangeNothing : Type 0

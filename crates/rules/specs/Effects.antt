@@ -1,7 +1,6 @@
 -- What each accepted call does (01, Calls and their steps), but finish.
-use Rattle.std.specs.Prelude.{ℕ, zero, suc, ◌+◌, ◌-◌, ◌^◌, ◌%◌, Bool, true, false, not, cond, ◌||◌, List, ltb, eqb, get_or, set, length}
+use Rattle.std.specs.Prelude.{ℕ, zero, suc, ◌+◌, ◌-◌, ◌^◌, ◌%◌, Bool, false, cond, ◌||◌, List, ltb, eqb, get_or, set, length}
 use Rattle.std.specs.Int.Bits.{bit_or}
-use Rattle.maps.specs.declared.Number.{Number}
 use Rattle.ring.specs.declared.Channel.{Channel}
 use Rattle.ring.specs.declared.End.{End}
 use Rattle.ring.specs.Ring.{put_place, gained, take_place, taken, grown, lifted, put_words, read_words, fitting, readable}
@@ -15,11 +14,11 @@ use Rattle.record.specs.Places.{at_flag, at_mutex, at_readers, at_writers}
 use Rattle.room.specs.Room.{offset}
 use Rattle.rules.specs.declared.Outcome.{Outcome}
 use Rattle.rules.specs.declared.Answer.{Answer}
-use Rattle.rules.specs.declared.Answer.TheVariants.{Done, Waiting, TimedOut, Busy, Value, Refused}
+use Rattle.rules.specs.declared.Answer.TheVariants.{Done, Waiting, Busy, Value}
 use Rattle.rules.specs.declared.Reading.{Reading}
 use Rattle.rules.specs.declared.Reading.TheVariants as reading
-use Rattle.rules.specs.Update.{with_depth, with_running, with_ready, with_ticks, with_processes, with_process, with_flag, with_mutex, with_channel, with_readers, with_writers}
-use Rattle.rules.specs.Blocks.{caller, choose, is_limited, opened, waking_all, waking_one}
+use Rattle.rules.specs.Update.{with_depth, with_ready, with_ticks, with_processes, with_process, with_flag, with_mutex, with_channel, with_readers, with_writers}
+use Rattle.rules.specs.Blocks.{choose, is_limited, opened, waking_all, waking_one}
 use Rattle.rules.specs.Refusals.{is_free}
 
 -- an answer, the record then, and the room then

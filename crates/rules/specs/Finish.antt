@@ -1,5 +1,5 @@
 -- Finish ends the caller's open wait (01, Process calls).
-use Rattle.std.specs.Prelude.{ℕ, Bool, true, false, cond, ◌&&◌, List, eqb}
+use Rattle.std.specs.Prelude.{ℕ, Bool, cond, ◌&&◌, List, eqb}
 use Rattle.maps.specs.Maps.{has}
 use Rattle.ring.specs.declared.End.{End}
 use Rattle.record.specs.declared.Kernel.{Kernel}

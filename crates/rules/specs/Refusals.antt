@@ -1,11 +1,9 @@
 -- The refusal table (01, Refusal numbers): rows 1 to 13 in the document's order. Where several apply the lowest number is answered. A condition takes
 -- numbers, waits and the call, never the whole record.
-use Rattle.std.specs.Prelude.{ℕ, ◌-◌, Bool, true, false, not, cond, ◌&&◌, ◌||◌, List, [], ◌∷◌, eqb, get_or}
+use Rattle.std.specs.Prelude.{ℕ, ◌-◌, Bool, true, false, not, cond, ◌&&◌, ◌||◌, List, [], ◌∷◌, eqb}
 use Rattle.record.specs.declared.Kernel.{Kernel}
-use Rattle.record.specs.declared.Setup.{Setup}
 use Rattle.record.specs.declared.Owner.{Owner}
 use Rattle.record.specs.declared.Owner.TheVariants as owner
-use Rattle.record.specs.declared.Wait.{Wait}
 use Rattle.record.specs.Record.{wait_of}
 use Rattle.record.specs.Places.{is_open}
 use Rattle.record.specs.Sound.{sound}

@@ -1,5 +1,5 @@
 -- One step of the kernel: record, room, block and call in; answer, record, room and block out. Refused: all as they came. Beside it, sequences of calls.
-use Rattle.std.specs.Prelude.{ℕ, ◌+◌, Bool, List, [], ◌∷◌, length}
+use Rattle.std.specs.Prelude.{ℕ, ◌+◌, List, [], ◌∷◌, length}
 use Rattle.maps.specs.declared.Number.{Number}
 use Rattle.record.specs.declared.Kernel.{Kernel}
 use Rattle.rules.specs.declared.Call.{Call}
@@ -14,7 +14,7 @@ use Rattle.rules.specs.declared.Verdict.{Verdict}
 use Rattle.rules.specs.declared.Verdict.TheVariants as verdict
 use Rattle.rules.specs.Answers.{Said, value, refused, number, said}
 use Rattle.rules.specs.Update.{with_depth, with_running}
-use Rattle.rules.specs.Blocks.{caller, caller_row, choose}
+use Rattle.rules.specs.Blocks.{caller_row}
 use Rattle.rules.specs.Calls.{numbered}
 use Rattle.rules.specs.Refusals.{verdict as verdict_on}
 use Rattle.rules.specs.Effects.{Effect, answered, in_place, ends, exited, value_read, slept, cleared, waited, signalled, locked_or, tried, unlocked, pushed_or, popped_or, flushed, forced, woken, ticked, words_written, written, room_written, words_read, read_out, block_read}

@@ -6,7 +6,7 @@ use Rattle.record.specs.declared.Kernel.{Kernel}
 use Rattle.record.specs.declared.Process.{Process}
 use Rattle.record.specs.declared.Flag.{Flag}
 use Rattle.record.specs.declared.Mutex.{Mutex}
-use Rattle.record.specs.Record.{Services, services, flag_at, mutex_at, channel_at}
+use Rattle.record.specs.Record.{Services, services}
 use Rattle.record.specs.Places.{Place, nowhere, at_flag, at_mutex, at_readers, at_writers}
 use Rattle.record.specs.Record.{no_flag, no_mutex, no_channel}
 

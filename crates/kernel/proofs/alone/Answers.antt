@@ -2,7 +2,6 @@
 use mathlib.Core.Path.{ap, ◌∙◌}
 use Rattle.rules.specs.Step.{Result}
 use Rattle.rules.proofs.Lent.{moved, step-alone}
-use Rattle.std.proofs.Common.{rules}
 use Rattle.kernel.proofs.alone.Goals as goal
 
 pub returns : goal.returns

@@ -1,19 +1,18 @@
 -- `kernel::stepped` meets its contract: the call settled over its parts, put back, and the counters that fall. The invariant: the first q of them have.
 -- Assumes nothing.
-use Prim.Native.Nat.{◌<◌, ◌≤◌, ◌-◌}
-use mathlib.Core.Path.{◌≡◌, sym, ◌∙◌}
+use mathlib.Core.Path.{sym, ◌∙◌}
 use native.Mathlib.Nat.{le_antisymm}
 use native.Mathlib.Numerals.{add-one}
-use Rattle.rules.specs.Effects.{counted, with_counted}
+use Rattle.rules.specs.Effects.{counted}
 use Rattle.carry.proofs.Stepped.{limits-sound, asks-so, limits-so, ends_so}
 use Rattle.std.proofs.Common.{rules}
 use Rattle.kernel.proofs.stepped.Goals as goal
 
 pub settle-d-requires : goal.settle-d-requires
 settle-d-requires c = (
-      limits-sound c.args.k c.args.c _ _ _ c.is_sound-sound.ensures c.below-me.ensures.0 c.spot_of-s.ensures.0,
-      asks-so c.args.k c.args.c _ _ _ c.is_sound-sound.ensures c.below-me.ensures.0 c.spot_of-s.ensures.0 _,
-    )
+  limits-sound c.args.k c.args.c _ _ _ c.is_sound-sound.ensures c.below-me.ensures.0 c.spot_of-s.ensures.0,
+  asks-so c.args.k c.args.c _ _ _ c.is_sound-sound.ensures c.below-me.ensures.0 c.spot_of-s.ensures.0 _,
+)
 
 pub offset_bounds-next-p-2 : goal.offset_bounds-next-p-2
 offset_bounds-next-p-2 c =

@@ -1,12 +1,8 @@
 -- `kernel::stepped` meets its contract: the call settled over its parts, put back, and the counters that fall. The invariant: the first q of them have.
 -- Assumes nothing.
 use Prim.Native.Nat.{◌<◌, ◌≤◌, ◌-◌}
-use mathlib.Core.Path.{◌≡◌, sym, ◌∙◌}
-use native.Mathlib.Nat.{le_antisymm}
-use native.Mathlib.Numerals.{add-one}
+use mathlib.Core.Path.{◌≡◌}
 use Rattle.rules.specs.Effects.{counted, with_counted}
-use Rattle.carry.proofs.Stepped.{limits-sound, asks-so, limits-so, ends_so}
-use Rattle.std.proofs.Common.{rules}
 use Rattle.kernel.proofs.stepped.Given as goal
 
 abbrev pub invariant-loop-q : goal.invariant-loop-q

@@ -1,5 +1,5 @@
 -- `maps::holds` meets its contract: a test by the tag is membership. Assumes nothing.
-use Rattle.std.proofs.Common.{◌∙◌, rules}
+use Rattle.std.proofs.Common.{◌∙◌}
 use Rattle.maps.proofs.Tags.{meets-tag}
 use Rattle.maps.proofs.holds.Goals as goal
 

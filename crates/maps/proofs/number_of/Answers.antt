@@ -1,5 +1,5 @@
 -- `maps::number_of` meets its contract: a tag is its own lowest bit, and nothing else is, but the empty map, whose lowest number is 32. Assumes nothing.
-use Rattle.std.proofs.Common.{ℕ, sym, ap, ◌∙◌, rules}
+use Rattle.std.proofs.Common.{ℕ, sym, ap, ◌∙◌}
 use Rattle.maps.proofs.Tags.{number-isolated, number-none}
 use Rattle.maps.proofs.number_of.Goals as goal
 

@@ -1,13 +1,7 @@
 -- `ring::read_block` meets its contract. The invariant: i words are read, and `at` is the place of the next. Assumes nothing.
-use Prim.Native.Nat.{ℕ, ◌≤◌, ◌<◌, ◌-◌, ◌+◌, ◌%◌}
-use native.Mathlib.Nat.{add-zero}
-use mathlib.Core.Path.{◌≡◌, refl, ap, sym, ◌∙◌}
-use native.Mathlib.Omega.{arith}
-use lib.ListN.{length}
-use Rattle.ring.specs.Ring.{place, lifted, read_words}
-use Rattle.ring.proofs.Places.{place-lt, place_none, place-next}
-use Rattle.ring.proofs.Blocks.{length-read_words, read_none, read_word}
-use Rattle.std.proofs.Common.{rules}
+use Prim.Native.Nat.{◌≤◌, ◌<◌, ◌-◌}
+use mathlib.Core.Path.{◌≡◌}
+use Rattle.ring.specs.Ring.{place, read_words}
 use Rattle.ring.proofs.read_block.Given as goal
 
 abbrev pub invariant-loop-i : goal.invariant-loop-i

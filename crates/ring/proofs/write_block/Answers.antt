@@ -1,10 +1,10 @@
 -- `ring::write_block` meets its contract. The invariant: i words are put, and `at` is the place of the next. Assumes nothing.
-use Prim.Native.Nat.{ℕ, ◌≤◌, ◌<◌, ◌-◌, ◌+◌, ◌%◌}
+use Prim.Native.Nat.{ℕ, ◌+◌, ◌%◌}
 use native.Mathlib.Nat.{add-zero}
-use mathlib.Core.Path.{◌≡◌, refl, ap, sym, ◌∙◌}
+use mathlib.Core.Path.{◌≡◌, refl, ap, ◌∙◌}
 use native.Mathlib.Omega.{arith}
 use lib.ListN.{length}
-use Rattle.ring.specs.Ring.{place, grown, put_words}
+use Rattle.ring.specs.Ring.{place, put_words}
 use Rattle.ring.proofs.Places.{place-lt, place-next}
 use Rattle.ring.proofs.Blocks.{length-put_words, put_word, put-none}
 use Rattle.std.proofs.Common.{rules}

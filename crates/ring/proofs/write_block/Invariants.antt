@@ -1,13 +1,7 @@
 -- `ring::write_block` meets its contract. The invariant: i words are put, and `at` is the place of the next. Assumes nothing.
-use Prim.Native.Nat.{ℕ, ◌≤◌, ◌<◌, ◌-◌, ◌+◌, ◌%◌}
-use native.Mathlib.Nat.{add-zero}
-use mathlib.Core.Path.{◌≡◌, refl, ap, sym, ◌∙◌}
-use native.Mathlib.Omega.{arith}
-use lib.ListN.{length}
-use Rattle.ring.specs.Ring.{place, grown, put_words}
-use Rattle.ring.proofs.Places.{place-lt, place-next}
-use Rattle.ring.proofs.Blocks.{length-put_words, put_word, put-none}
-use Rattle.std.proofs.Common.{rules}
+use Prim.Native.Nat.{◌≤◌, ◌<◌, ◌-◌, ◌+◌}
+use mathlib.Core.Path.{◌≡◌}
+use Rattle.ring.specs.Ring.{place, put_words}
 use Rattle.ring.proofs.write_block.Given as goal
 
 abbrev pub invariant-loop-i : goal.invariant-loop-i

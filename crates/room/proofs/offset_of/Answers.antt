@@ -1,5 +1,4 @@
 -- `room::offset_of` meets its contract. The invariant: the sum is that of the first i capacities. Assumes nothing.
-use Prim.Native.Nat.{◌≤◌, ◌-◌, ◌*◌}
 use mathlib.Core.Path.{◌≡◌, ap, sym, ◌∙◌}
 use native.Mathlib.Omega.{arith}
 use Rattle.room.specs.Room.{offset}

@@ -1,10 +1,7 @@
 -- `room::offset_of` meets its contract. The invariant: the sum is that of the first i capacities. Assumes nothing.
 use Prim.Native.Nat.{◌≤◌, ◌-◌, ◌*◌}
-use mathlib.Core.Path.{◌≡◌, ap, sym, ◌∙◌}
-use native.Mathlib.Omega.{arith}
+use mathlib.Core.Path.{◌≡◌}
 use Rattle.room.specs.Room.{offset}
-use Rattle.room.proofs.Offsets.{offset-none, offset-more}
-use Rattle.std.proofs.Common.{rules}
 use Rattle.room.proofs.offset_of.Given as goal
 
 abbrev pub invariant-loop-i : goal.invariant-loop-i

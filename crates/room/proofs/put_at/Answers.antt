@@ -1,7 +1,6 @@
 -- `room::put_at` meets its contract: a store in the part is a store in the room. Assumes nothing.
 use Rattle.ring.proofs.Places.{put-place-lt}
 use Rattle.room.proofs.Lent.{put-mid}
-use Rattle.std.proofs.Common.{rules}
 use Rattle.room.proofs.put_at.Goals as goal
 
 pub returns : goal.returns

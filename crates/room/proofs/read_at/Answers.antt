@@ -1,7 +1,6 @@
 -- `room::read_at` meets its contract: the items of the part are those of the room, and the part comes back as it was. Assumes nothing.
 use mathlib.Core.Path.{◌∙◌}
 use Rattle.room.proofs.Lent.{kept-mid, read_words-mid}
-use Rattle.std.proofs.Common.{rules}
 use Rattle.room.proofs.read_at.Goals as goal
 
 pub returns : goal.returns

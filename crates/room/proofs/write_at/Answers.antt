@@ -1,6 +1,5 @@
 -- `room::write_at` meets its contract: the words put in the part are put in the room. Assumes nothing.
 use Rattle.room.proofs.Lent.{put_words-mid}
-use Rattle.std.proofs.Common.{rules}
 use Rattle.room.proofs.write_at.Goals as goal
 
 pub returns : goal.returns

@@ -1,6 +1,5 @@
 -- `parts::blocks::chosen` meets its contract. Assumes nothing.
 use Rattle.parts.specs.Blocks.{choose}
-use Rattle.std.proofs.Common.{rules}
 use Rattle.parts.proofs.blocks.chosen.Goals as goal
 
 pub returns : goal.returns

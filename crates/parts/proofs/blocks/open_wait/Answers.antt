@@ -1,6 +1,5 @@
 -- `parts::blocks::open_wait` meets its contract, by those of its parts. Assumes nothing.
 use Rattle.parts.specs.Blocks.{opened}
-use Rattle.std.proofs.Common.{rules}
 use Rattle.parts.proofs.blocks.open_wait.Goals as goal
 
 pub returns : goal.returns

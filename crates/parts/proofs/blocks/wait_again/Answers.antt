@@ -1,6 +1,5 @@
 -- `parts::blocks::wait_again` meets its contract, by those of its parts. Assumes nothing.
 use Rattle.parts.specs.Blocks.{again}
-use Rattle.std.proofs.Common.{rules}
 use Rattle.parts.proofs.blocks.wait_again.Goals as goal
 
 pub returns : goal.returns

@@ -1,6 +1,5 @@
 -- `parts::channels::pop_item` meets its contract: the take, and the writers woken. Assumes nothing.
 use Rattle.parts.specs.Effects.{popped}
-use Rattle.std.proofs.Common.{rules}
 use Rattle.parts.proofs.channels.pop_item.Goals as goal
 
 pub take_at-t-requires : goal.take_at-t-requires

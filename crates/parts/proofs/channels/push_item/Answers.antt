@@ -1,6 +1,5 @@
 -- `parts::channels::push_item` meets its contract: the put, and the readers woken. Assumes nothing.
 use Rattle.parts.specs.Effects.{pushed}
-use Rattle.std.proofs.Common.{rules}
 use Rattle.parts.proofs.channels.push_item.Goals as goal
 
 pub put_at-c-requires : goal.put_at-c-requires

@@ -1,7 +1,6 @@
 -- `parts::channels::read` meets its contract, whether words were read or not. Assumes nothing.
 use borrow.Author.Tests.{eq-eqb, ne_eqb}
 use Rattle.parts.specs.Effects.{read_out}
-use Rattle.std.proofs.Common.{rules}
 use Rattle.parts.proofs.channels.read.Goals as goal
 
 pub read_at-m-requires : goal.read_at-m-requires

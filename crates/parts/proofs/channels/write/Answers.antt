@@ -1,7 +1,6 @@
 -- `parts::channels::write` meets its contract, whether words were written or not. Assumes nothing.
 use borrow.Author.Tests.{eq-eqb, ne_eqb}
 use Rattle.parts.specs.Effects.{written}
-use Rattle.std.proofs.Common.{rules}
 use Rattle.parts.proofs.channels.write.Goals as goal
 
 pub write_at-m-requires : goal.write_at-m-requires

@@ -2,7 +2,6 @@
 use mathlib.Core.Path.{refl}
 use borrow.Author.Tests.{lt-ltb, le-ltb}
 use Rattle.parts.specs.Blocks.{closed}
-use Rattle.std.proofs.Common.{rules}
 use Rattle.parts.proofs.finish.finish_pop.Goals as goal
 
 pub pop_item-p-requires : goal.pop_item-p-requires

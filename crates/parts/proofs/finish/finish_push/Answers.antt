@@ -1,7 +1,6 @@
 -- `parts::finish::finish_push` meets its contract, whether there is room or not. Assumes nothing.
 use borrow.Author.Tests.{lt-ltb, le-ltb}
 use Rattle.parts.specs.Blocks.{closed}
-use Rattle.std.proofs.Common.{rules}
 use Rattle.parts.proofs.finish.finish_push.Goals as goal
 
 pub push_item-requires : goal.push_item-requires

@@ -1,6 +1,5 @@
 -- `parts::finish::finish_wait` meets its contract, whether the caller is still in the map or not. Assumes nothing.
 use Rattle.parts.specs.Blocks.{closed}
-use Rattle.std.proofs.Common.{rules}
 use Rattle.parts.proofs.finish.finish_wait.Goals as goal
 
 pub leave_map-requires : goal.leave_map-requires

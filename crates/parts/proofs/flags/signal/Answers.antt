@@ -1,6 +1,5 @@
 -- `parts::flags::signal` meets its contract. Assumes nothing.
 use Rattle.parts.specs.Effects.{signalled}
-use Rattle.std.proofs.Common.{rules}
 use Rattle.parts.proofs.flags.signal.Goals as goal
 
 pub returns : goal.returns

@@ -1,6 +1,5 @@
 -- `parts::mutexes::unlock` meets its contract. Assumes nothing.
 use Rattle.parts.specs.Effects.{unlocked}
-use Rattle.std.proofs.Common.{rules}
 use Rattle.parts.proofs.mutexes.unlock.Goals as goal
 
 pub returns : goal.returns

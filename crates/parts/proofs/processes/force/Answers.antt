@@ -1,6 +1,5 @@
 -- `parts::processes::force` meets its contract. Assumes nothing.
 use Rattle.parts.specs.Effects.{forced}
-use Rattle.std.proofs.Common.{rules}
 use Rattle.parts.proofs.processes.force.Goals as goal
 
 pub returns : goal.returns

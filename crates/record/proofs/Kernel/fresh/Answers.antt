@@ -1,5 +1,5 @@
 -- `record::Kernel::fresh` meets its contract: the record of all zeros with what setup gives stored over it. Assumes nothing.
-use Rattle.std.proofs.Common.{◌∙◌, sym, rules}
+use Rattle.std.proofs.Common.{◌∙◌, sym}
 use Rattle.record.proofs.Started.{setup-processes}
 use Rattle.record.proofs.Kernel.fresh.Goals as goal
 

@@ -1,6 +1,5 @@
 -- `record::fresh::setup_fits` meets its contract, by those of its tests. Assumes nothing.
 use Rattle.record.specs.Fresh.{setup_fits}
-use Rattle.std.proofs.Common.{rules}
 use Rattle.record.proofs.fresh.setup_fits.Goals as goal
 
 pub returns : goal.returns

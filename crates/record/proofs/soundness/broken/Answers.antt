@@ -1,6 +1,5 @@
 -- `record::soundness::broken` meets its contract, mask by mask. Assumes nothing.
 use Rattle.record.specs.Check.{broken}
-use Rattle.std.proofs.Common.{rules}
 use Rattle.record.proofs.soundness.broken.Goals as goal
 
 pub returns : goal.returns

@@ -1,6 +1,5 @@
 -- `record::soundness::gather` meets its contract. The invariant: the first p processes are counted. Assumes nothing.
-use Prim.Native.Nat.{ℕ, ◌≤◌, ◌-◌}
-use mathlib.Core.Path.{◌≡◌, ◌∙◌, ap}
+use mathlib.Core.Path.{◌∙◌, ap}
 use native.Mathlib.Nat.{le_antisymm}
 use native.Mathlib.Numerals.{add-one}
 use Rattle.maps.specs.Maps.{map_of}

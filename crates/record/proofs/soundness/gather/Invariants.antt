@@ -1,12 +1,7 @@
 -- `record::soundness::gather` meets its contract. The invariant: the first p processes are counted. Assumes nothing.
-use Prim.Native.Nat.{ℕ, ◌≤◌, ◌-◌}
-use mathlib.Core.Path.{◌≡◌, ◌∙◌, ap}
-use native.Mathlib.Nat.{le_antisymm}
-use native.Mathlib.Numerals.{add-one}
-use Rattle.maps.specs.Maps.{map_of}
-use Rattle.record.specs.Check.{row_at, tally_of, waiting_of}
-use Rattle.record.proofs.Slots.{class-slot-lt}
-use Rattle.std.proofs.Common.{rules}
+use Prim.Native.Nat.{◌≤◌, ◌-◌}
+use mathlib.Core.Path.{◌≡◌}
+use Rattle.record.specs.Check.{tally_of, waiting_of}
 use Rattle.record.proofs.soundness.gather.Given as goal
 
 abbrev pub invariant-loop-p : goal.invariant-loop-p

@@ -1,10 +1,7 @@
 -- `record::soundness::see_readers` meets its contract. The invariant: the first i channels' readers are seen. Assumes nothing.
-use Prim.Native.Nat.{ℕ, ◌≤◌, ◌-◌}
-use mathlib.Core.Path.{◌≡◌, ◌∙◌, ap}
-use native.Mathlib.Nat.{le_antisymm}
-use native.Mathlib.Numerals.{add-one}
-use Rattle.record.specs.Check.{over, readers_seen}
-use Rattle.std.proofs.Common.{rules}
+use Prim.Native.Nat.{◌≤◌, ◌-◌}
+use mathlib.Core.Path.{◌≡◌}
+use Rattle.record.specs.Check.{readers_seen}
 use Rattle.record.proofs.soundness.see_readers.Given as goal
 
 abbrev pub invariant-loop-i : goal.invariant-loop-i

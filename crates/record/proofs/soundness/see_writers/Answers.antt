@@ -1,6 +1,6 @@
 -- `record::soundness::see_writers` meets its contract. The invariant: the first i channels' writers are seen. Assumes nothing.
-use Prim.Native.Nat.{ℕ, ◌≤◌, ◌-◌}
-use mathlib.Core.Path.{◌≡◌, ◌∙◌, ap}
+use Prim.Native.Nat.{ℕ}
+use mathlib.Core.Path.{◌∙◌, ap}
 use native.Mathlib.Nat.{le_antisymm}
 use native.Mathlib.Numerals.{add-one}
 use Rattle.record.specs.Check.{over, writers_seen}
