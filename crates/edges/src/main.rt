@@ -9,11 +9,13 @@ mod soundness1;
 mod soundness2;
 mod soundness3;
 
-fn main() {
-    processes::run();
-    channels::run();
-    setups::run();
-    soundness1::run();
-    soundness2::run();
-    soundness3::run();
+use std::io;
+
+fn main(rt: HostRuntime) -> io::Result<()> {
+    processes::run(&rt)?;
+    channels::run(&rt)?;
+    setups::run(&rt)?;
+    soundness1::run(&rt)?;
+    soundness2::run(&rt)?;
+    soundness3::run(&rt)
 }

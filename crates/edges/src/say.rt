@@ -1,27 +1,24 @@
 // Lines of output: a label and a number.
-use libc::STDOUT_FILENO;
 use record::Kernel;
+use std::io;
 
-pub fn line(label: &[u8], value: u64) {
-    io::write_all(STDOUT_FILENO, label);
-    io::write_all(STDOUT_FILENO, b": ");
-    io::print_decimal(STDOUT_FILENO, value);
-    io::write_all(STDOUT_FILENO, b"\n");
+pub fn line(rt: &impl Print, label: &str, value: u64) -> io::Result<()> {
+    println!(rt; "{label}: {value}")
 }
 
-pub fn word(label: &[u8], value: u32) {
-    line(label, value as u64);
+pub fn word(rt: &impl Print, label: &str, value: u32) -> io::Result<()> {
+    line(rt, label, value as u64)
 }
 
-pub fn test(label: &[u8], value: bool) {
+pub fn test(rt: &impl Print, label: &str, value: bool) -> io::Result<()> {
     if value {
-        line(label, 1);
+        line(rt, label, 1)
     } else {
-        line(label, 0);
+        line(rt, label, 0)
     }
 }
 
 // 1 where the record is sound, 0 where it isn't.
-pub fn verdict(label: &[u8], k: Kernel) {
-    test(label, record::soundness::is_sound(k));
+pub fn verdict(rt: &impl Print, label: &str, k: Kernel) -> io::Result<()> {
+    test(rt, label, record::soundness::is_sound(k))
 }

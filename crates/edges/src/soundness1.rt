@@ -2,6 +2,7 @@
 use crate::say;
 use maps::Number;
 use record::{Kernel, Process, Setup, Wait};
+use std::io;
 
 // Four processes, two flags, two mutexes, two channels of 2 and 3 items. Process 0 waits at flag 0 with 5 ticks left, process 1 sleeps without limit,
 // process 2 runs, process 3 is idle.
@@ -41,99 +42,103 @@ pub fn scheduled(k: Kernel, ready: u32, running: u32, next: u32) -> Kernel {
     r
 }
 
-fn counts() {
+fn counts(rt: &impl Print) -> io::Result<()> {
     let mut k = base();
     k.setup.mode = 2;
-    say::verdict(b"rule 1, mode 2", k);
+    say::verdict(rt, "rule 1, mode 2", k)?;
     k.setup.mode = 1;
-    say::verdict(b"  mode 1", k);
+    say::verdict(rt, "  mode 1", k)?;
     k.setup.processes = 1;
-    say::verdict(b"rule 1, 1 process", k);
+    say::verdict(rt, "rule 1, 1 process", k)?;
     k.setup.processes = 33;
-    say::verdict(b"rule 1, 33 processes", k);
+    say::verdict(rt, "rule 1, 33 processes", k)?;
     k = base();
     k.setup.flags = 9;
-    say::verdict(b"rule 1, 9 flags", k);
+    say::verdict(rt, "rule 1, 9 flags", k)?;
     k.setup.flags = 8;
-    say::verdict(b"  8 flags", k);
+    say::verdict(rt, "  8 flags", k)?;
     k.setup.mutexes = 9;
-    say::verdict(b"rule 1, 9 mutexes", k);
+    say::verdict(rt, "rule 1, 9 mutexes", k)?;
     k = base();
     k.setup.channels = 5;
-    say::verdict(b"rule 1, 5 channels", k);
+    say::verdict(rt, "rule 1, 5 channels", k)
 }
 
-fn numbers() {
+fn numbers(rt: &impl Print) -> io::Result<()> {
     let mut k = base();
     k.depth = 8;
-    say::verdict(b"  depth 8", k);
+    say::verdict(rt, "  depth 8", k)?;
     k.depth = 9;
-    say::verdict(b"rule 1, depth 9", k);
+    say::verdict(rt, "rule 1, depth 9", k)?;
     k = base();
     k.setup.mode = 1;
-    say::verdict(b"  deferred, running 3", scheduled(k, 12, 3, 2));
-    say::verdict(b"rule 1, running 4 of 4", scheduled(k, 12, 4, 2));
-    say::verdict(b"rule 1, next 4294967295", scheduled(k, 12, 2, 4294967295));
+    say::verdict(rt, "  deferred, running 3", scheduled(k, 12, 3, 2))?;
+    say::verdict(rt, "rule 1, running 4 of 4", scheduled(k, 12, 4, 2))?;
+    say::verdict(
+        rt,
+        "rule 1, next 4294967295",
+        scheduled(k, 12, 2, 4294967295),
+    )
 }
 
-fn rings() {
+fn rings(rt: &impl Print) -> io::Result<()> {
     let mut k = base();
     k.channel[1].capacity = 0;
-    say::verdict(b"rule 1, capacity 0", k);
+    say::verdict(rt, "rule 1, capacity 0", k)?;
     k.channel[1].capacity = 65;
-    say::verdict(b"rule 1, capacity 65", k);
+    say::verdict(rt, "rule 1, capacity 65", k)?;
     k.channel[1].capacity = 64;
     k.channel[1].first = 63;
     k.channel[1].count = 64;
-    say::verdict(b"  capacity 64, first 63, count 64", k);
+    say::verdict(rt, "  capacity 64, first 63, count 64", k)?;
     k.channel[1].first = 64;
-    say::verdict(b"rule 1, first 64 of 64", k);
+    say::verdict(rt, "rule 1, first 64 of 64", k)?;
     k.channel[1].first = 0;
     k.channel[1].count = 65;
-    say::verdict(b"rule 1, count 65 of 64", k);
+    say::verdict(rt, "rule 1, count 65 of 64", k)
 }
 
-fn bits() {
+fn bits(rt: &impl Print) -> io::Result<()> {
     let mut k = base();
     k.ready = 28;
-    say::verdict(b"rule 2, ready map with bit 4 of 4", k);
+    say::verdict(rt, "rule 2, ready map with bit 4 of 4", k)?;
     k = base();
     k.flag[1].waiters = 16;
-    say::verdict(b"rule 2, flag map with bit 4", k);
+    say::verdict(rt, "rule 2, flag map with bit 4", k)?;
     k = base();
     k.mutex[1].waiters = 2147483648;
-    say::verdict(b"rule 2, mutex map with bit 31", k);
+    say::verdict(rt, "rule 2, mutex map with bit 31", k)?;
     k = base();
     k.channel[0].readers = 16;
-    say::verdict(b"rule 2, reader map with bit 4", k);
+    say::verdict(rt, "rule 2, reader map with bit 4", k)?;
     k = base();
     k.channel[1].writers = 16;
-    say::verdict(b"rule 2, writer map with bit 4", k);
+    say::verdict(rt, "rule 2, writer map with bit 4", k)
 }
 
-fn idle() {
+fn idle(rt: &impl Print) -> io::Result<()> {
     let mut k = base();
     k.ready = 4;
-    say::verdict(b"rule 2, idle not ready", k);
+    say::verdict(rt, "rule 2, idle not ready", k)?;
     k = base();
     k.process[3] = Process {
         counter: 0,
         wait: Wait::Sleep { limited: false },
     };
-    say::verdict(b"rule 2, idle with an open wait", k);
+    say::verdict(rt, "rule 2, idle with an open wait", k)?;
     k = base();
     k.process[3].counter = 1;
-    say::verdict(b"rule 2, idle with counter 1", k);
+    say::verdict(rt, "rule 2, idle with counter 1", k)?;
     k = base();
     k.flag[1].waiters = 8;
-    say::verdict(b"rule 2, idle in a flag map", k);
+    say::verdict(rt, "rule 2, idle in a flag map", k)
 }
 
-pub fn run() {
-    say::verdict(b"base", base());
-    counts();
-    numbers();
-    rings();
-    bits();
-    idle();
+pub fn run(rt: &impl Print) -> io::Result<()> {
+    say::verdict(rt, "base", base())?;
+    counts(rt)?;
+    numbers(rt)?;
+    rings(rt)?;
+    bits(rt)?;
+    idle(rt)
 }

@@ -3,6 +3,7 @@ use crate::say;
 use crate::soundness1::{base, scheduled};
 use maps::Number;
 use record::{Kernel, Mutex, Owner, Setup};
+use std::io;
 
 fn owned_by(p: u32) -> Kernel {
     let mut k = base();
@@ -25,7 +26,7 @@ fn pending(mode: u32) -> Kernel {
     k
 }
 
-fn largest() {
+fn largest(rt: &impl Print) -> io::Result<()> {
     let s = Setup {
         mode: 0,
         processes: 32,
@@ -35,23 +36,23 @@ fn largest() {
     };
     let f = Kernel::fresh(s, [64, 64, 64, 64]);
     let mut k = f.kernel;
-    say::verdict(b"32 processes, everything", k);
+    say::verdict(rt, "32 processes, everything", k)?;
     k.channel[3].writers = 1073741824;
-    say::verdict(b"rule 3, process 30 in a map and nothing open", k);
+    say::verdict(rt, "rule 3, process 30 in a map and nothing open", k)?;
     k.channel[3].writers = 0;
     k.ready = 2147483647;
-    say::verdict(b"rule 2, idle 31 not ready", k);
+    say::verdict(rt, "rule 2, idle 31 not ready", k)
 }
 
-pub fn run() {
-    say::verdict(b"  owner 2", owned_by(2));
-    say::verdict(b"rule 6, owner 3, idle", owned_by(3));
-    say::verdict(b"rule 6, owner 4294967295", owned_by(4294967295));
-    say::verdict(b"rule 7, next 1, which isn't ready", chosen(1, 1));
-    say::verdict(b"rule 7, next 3 at depth 0", chosen(3, 0));
-    say::verdict(b"  next 3 at depth 1", chosen(3, 1));
-    say::verdict(b"rule 7, direct, running 1, next 2", pending(0));
-    say::verdict(b"  deferred, running 1, next 2", pending(1));
-    largest();
-    say::verdict(b"the record of all zeros", Kernel::zeros());
+pub fn run(rt: &impl Print) -> io::Result<()> {
+    say::verdict(rt, "  owner 2", owned_by(2))?;
+    say::verdict(rt, "rule 6, owner 3, idle", owned_by(3))?;
+    say::verdict(rt, "rule 6, owner 4294967295", owned_by(4294967295))?;
+    say::verdict(rt, "rule 7, next 1, which isn't ready", chosen(1, 1))?;
+    say::verdict(rt, "rule 7, next 3 at depth 0", chosen(3, 0))?;
+    say::verdict(rt, "  next 3 at depth 1", chosen(3, 1))?;
+    say::verdict(rt, "rule 7, direct, running 1, next 2", pending(0))?;
+    say::verdict(rt, "  deferred, running 1, next 2", pending(1))?;
+    largest(rt)?;
+    say::verdict(rt, "the record of all zeros", Kernel::zeros())
 }

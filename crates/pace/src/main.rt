@@ -1,11 +1,12 @@
 // How long a call takes: a million turns of one kind of call, by the letter that is given. `tests/pace` runs it, takes the time and prints nanoseconds.
 #![tactic(auto)]
 
-use libc::STDOUT_FILENO;
 use maps::Number;
 use record::{Kernel, Process, Setup, Wait};
 use ring::End;
 use rules::Outcome;
+use std::io;
+use std::rt::Env;
 
 fn after(o: Outcome) -> Kernel {
     o.kernel
@@ -106,14 +107,12 @@ fn run(kind: u8) -> Kernel {
     k
 }
 
-fn main() {
+fn main(rt: HostRuntime) -> io::Result<()> {
     let mut kind = [0u8; 1];
-    let n = os::arg(1, &mut kind);
+    let n = rt.arg(1, &mut kind).unwrap_or(0);
     if n != 1 {
-        io::write_all(STDOUT_FILENO, b"pace KIND: one of r e w l p b s t 2\n");
-        return;
+        return println!(rt; "pace KIND: one of r e w l p b s t 2");
     }
     let k = run(kind[0]);
-    io::print_decimal(STDOUT_FILENO, k.ready as u64);
-    io::write_all(STDOUT_FILENO, b"\n");
+    println!(rt; "{}", k.ready)
 }

@@ -1,7 +1,7 @@
 // The bench kernels, and what a line of output shows.
-use libc::STDOUT_FILENO;
 use record::{Kernel, Setup};
 use rules::{Answer, Outcome, Refusal};
+use std::io;
 
 // A: 3 processes, one flag, one mutex, one channel of 2, direct. B: the same, deferred. D: 4 processes.
 pub fn setup(mode: u32, processes: u32) -> Kernel {
@@ -16,18 +16,16 @@ pub fn setup(mode: u32, processes: u32) -> Kernel {
     f.kernel
 }
 
-fn text(t: &[u8]) {
-    io::write_all(STDOUT_FILENO, t);
+fn text(rt: &impl Print, t: &str) -> io::Result<()> {
+    print!(rt; "{t}")
 }
 
-fn number(label: &[u8], n: u32) {
-    text(label);
-    io::print_decimal(STDOUT_FILENO, n as u64);
+fn number(rt: &impl Print, label: &str, n: u32) -> io::Result<()> {
+    print!(rt; "{label}{n}")
 }
 
-pub fn title(t: &[u8]) {
-    text(t);
-    text(b"\n");
+pub fn title(rt: &impl Print, t: &str) -> io::Result<()> {
+    println!(rt; "{t}")
 }
 
 fn refusal_number(r: Refusal) -> u32 {
@@ -50,46 +48,46 @@ fn refusal_number(r: Refusal) -> u32 {
     }
 }
 
-fn answer(a: Answer) {
+fn answer(rt: &impl Print, a: Answer) -> io::Result<()> {
     match a {
-        Answer::Done => text(b"done"),
-        Answer::Waiting => text(b"waiting"),
-        Answer::TimedOut => text(b"timedout"),
-        Answer::Busy => text(b"busy"),
-        Answer::Value(v) => number(b"value ", v),
-        Answer::Refused(r) => number(b"refused ", refusal_number(r)),
+        Answer::Done => text(rt, "done"),
+        Answer::Waiting => text(rt, "waiting"),
+        Answer::TimedOut => text(rt, "timedout"),
+        Answer::Busy => text(rt, "busy"),
+        Answer::Value(v) => number(rt, "value ", v),
+        Answer::Refused(r) => number(rt, "refused ", refusal_number(r)),
     }
 }
 
 // A call's name, its answer, running, next and ready map.
-pub fn show(name: &[u8], o: Outcome) -> Kernel {
+pub fn show(rt: &impl Print, name: &str, o: Outcome) -> io::Result<Kernel> {
     let a = o.answer;
     let k = o.kernel;
-    text(b"  ");
-    text(name);
-    text(b": ");
-    answer(a);
-    number(b", running ", k.running.0);
-    number(b", next ", k.next.0);
-    number(b", ready ", k.ready);
-    text(b"\n");
-    k
+    text(rt, "  ")?;
+    text(rt, name)?;
+    text(rt, ": ")?;
+    answer(rt, a)?;
+    number(rt, ", running ", k.running.0)?;
+    number(rt, ", next ", k.next.0)?;
+    number(rt, ", ready ", k.ready)?;
+    text(rt, "\n")?;
+    Ok(k)
 }
 
 // The services' state: flag and its waiters, mutex waiters, the channel's first and count, the room.
-pub fn state(k: Kernel, room: [u32; 2]) {
+pub fn state(rt: &impl Print, k: Kernel, room: [u32; 2]) -> io::Result<()> {
     let f = k.flag[0];
     if f.on {
-        text(b"  flag on");
+        text(rt, "  flag on")?;
     } else {
-        text(b"  flag off");
+        text(rt, "  flag off")?;
     }
-    number(b", waiters ", f.waiters);
+    number(rt, ", waiters ", f.waiters)?;
     let c = k.channel[0];
-    number(b", first ", c.first);
-    number(b", count ", c.count);
-    number(b", room ", room[0]);
-    number(b" ", room[1]);
-    number(b", ticks ", k.ticks);
-    text(b"\n");
+    number(rt, ", first ", c.first)?;
+    number(rt, ", count ", c.count)?;
+    number(rt, ", room ", room[0])?;
+    number(rt, " ", room[1])?;
+    number(rt, ", ticks ", k.ticks)?;
+    text(rt, "\n")
 }

@@ -4,109 +4,123 @@ use maps::Number;
 use record::Kernel;
 use ring::End;
 use rules::Name;
+use std::io;
 
-fn case_7() {
-    title(b"case 7");
+fn case_7(rt: &impl Print) -> io::Result<()> {
+    title(rt, "case 7")?;
     let mut room = [0u32; 2];
     let mut k = show(
-        b"push 5",
+        rt,
+        "push 5",
         kernel::push(setup(0, 3), &mut room, 0, 5, End::Back),
-    );
+    )?;
     k = show(
-        b"push 7 at front",
+        rt,
+        "push 7 at front",
         kernel::push(k, &mut room, 0, 7, End::Front),
-    );
-    state(k, room);
-    k = show(b"push 8", kernel::push(k, &mut room, 0, 8, End::Back));
-    k = show(b"pop front", kernel::pop(k, &mut room, 0, End::Front, 0));
-    k = show(b"finish", kernel::finish_wait(k, &mut room));
-    state(k, room);
+    )?;
+    state(rt, k, room)?;
+    k = show(rt, "push 8", kernel::push(k, &mut room, 0, 8, End::Back))?;
+    k = show(rt, "pop front", kernel::pop(k, &mut room, 0, End::Front, 0))?;
+    k = show(rt, "finish", kernel::finish_wait(k, &mut room))?;
+    state(rt, k, room)
 }
 
-fn case_8() {
-    title(b"case 8");
+fn case_8(rt: &impl Print) -> io::Result<()> {
+    title(rt, "case 8")?;
     let mut room = [0u32; 2];
     let block = [9u32; 1];
-    let mut k = show(b"sleep 1", kernel::sleep(setup(0, 3), 1));
-    k = show(b"pop limit 1", kernel::pop(k, &mut room, 0, End::Front, 1));
-    k = show(b"enter", kernel::enter(k));
+    let mut k = show(rt, "sleep 1", kernel::sleep(setup(0, 3), 1))?;
     k = show(
-        b"write block 9",
+        rt,
+        "pop limit 1",
+        kernel::pop(k, &mut room, 0, End::Front, 1),
+    )?;
+    k = show(rt, "enter", kernel::enter(k))?;
+    k = show(
+        rt,
+        "write block 9",
         kernel::write_interrupt(k, &mut room, 0, &block),
-    );
-    k = show(b"tick", kernel::tick(k));
-    k = show(b"exit", kernel::exit(k));
-    k = show(b"finish", kernel::finish_wait(k, &mut room));
-    k = show(b"pop", kernel::pop(k, &mut room, 0, End::Front, 0));
-    k = show(b"sleep 0", kernel::sleep(k, 0));
-    show(b"finish", kernel::finish_wait(k, &mut room));
+    )?;
+    k = show(rt, "tick", kernel::tick(k))?;
+    k = show(rt, "exit", kernel::exit(k))?;
+    k = show(rt, "finish", kernel::finish_wait(k, &mut room))?;
+    k = show(rt, "pop", kernel::pop(k, &mut room, 0, End::Front, 0))?;
+    k = show(rt, "sleep 0", kernel::sleep(k, 0))?;
+    show(rt, "finish", kernel::finish_wait(k, &mut room))?;
+    Ok(())
 }
 
-fn case_9() {
-    title(b"case 9");
-    let mut k = show(b"sleep 0", kernel::sleep(setup(0, 3), 0));
-    k = show(b"sleep 0", kernel::sleep(k, 0));
-    show(b"sleep 1", kernel::sleep(k, 1));
+fn case_9(rt: &impl Print) -> io::Result<()> {
+    title(rt, "case 9")?;
+    let mut k = show(rt, "sleep 0", kernel::sleep(setup(0, 3), 0))?;
+    k = show(rt, "sleep 0", kernel::sleep(k, 0))?;
+    show(rt, "sleep 1", kernel::sleep(k, 1))?;
+    Ok(())
 }
 
-fn entered_thrice(k: Kernel) -> Kernel {
-    let mut next = show(b"enter", kernel::enter(k));
-    next = show(b"enter", kernel::enter(next));
-    show(b"enter", kernel::enter(next))
+fn entered_thrice(rt: &impl Print, k: Kernel) -> io::Result<Kernel> {
+    let mut next = show(rt, "enter", kernel::enter(k))?;
+    next = show(rt, "enter", kernel::enter(next))?;
+    show(rt, "enter", kernel::enter(next))
 }
 
-fn case_10() {
-    title(b"case 10");
-    entered_thrice(entered_thrice(entered_thrice(setup(0, 3))));
-    show(b"exit on a fresh record", kernel::exit(setup(0, 3)));
+fn case_10(rt: &impl Print) -> io::Result<()> {
+    title(rt, "case 10")?;
+    entered_thrice(rt, entered_thrice(rt, entered_thrice(rt, setup(0, 3))?)?)?;
+    show(rt, "exit on a fresh record", kernel::exit(setup(0, 3)))?;
+    Ok(())
 }
 
-fn case_11() {
-    title(b"case 11");
-    let k = show(b"lock", kernel::lock(setup(0, 3), 0, 0));
-    show(b"lock", kernel::lock(k, 0, 0));
-    show(b"unlock when free", kernel::unlock(setup(0, 3), 0));
+fn case_11(rt: &impl Print) -> io::Result<()> {
+    title(rt, "case 11")?;
+    let k = show(rt, "lock", kernel::lock(setup(0, 3), 0, 0))?;
+    show(rt, "lock", kernel::lock(k, 0, 0))?;
+    show(rt, "unlock when free", kernel::unlock(setup(0, 3), 0))?;
+    Ok(())
 }
 
 // Process 1 waits for the mutex that process 2 owns.
-fn contended() -> Kernel {
+fn contended(rt: &impl Print) -> io::Result<Kernel> {
     let mut room = [0u32; 2];
-    let mut k = show(b"0 sleeps 1", kernel::sleep(setup(0, 4), 1));
-    k = show(b"1 sleeps 0", kernel::sleep(k, 0));
-    k = show(b"2 locks", kernel::lock(k, 0, 0));
-    k = show(b"2 forces 1", kernel::force(k, Name::Number(Number(1))));
-    k = show(b"1 finishes", kernel::finish_wait(k, &mut room));
-    show(b"1 locks", kernel::lock(k, 0, 0))
+    let mut k = show(rt, "0 sleeps 1", kernel::sleep(setup(0, 4), 1))?;
+    k = show(rt, "1 sleeps 0", kernel::sleep(k, 0))?;
+    k = show(rt, "2 locks", kernel::lock(k, 0, 0))?;
+    k = show(rt, "2 forces 1", kernel::force(k, Name::Number(Number(1))))?;
+    k = show(rt, "1 finishes", kernel::finish_wait(k, &mut room))?;
+    show(rt, "1 locks", kernel::lock(k, 0, 0))
 }
 
-fn case_12() {
-    title(b"case 12");
+fn case_12(rt: &impl Print) -> io::Result<()> {
+    title(rt, "case 12")?;
     let mut room = [0u32; 2];
-    let mut k = show(b"enter", kernel::enter(contended()));
-    k = show(b"unlock from interrupt", kernel::unlock_interrupt(k, 0));
-    k = show(b"tick", kernel::tick(k));
-    k = show(b"exit", kernel::exit(k));
-    k = show(b"0 finishes", kernel::finish_wait(k, &mut room));
-    k = show(b"0 locks", kernel::lock(k, 0, 0));
-    k = show(b"0 sleeps 0", kernel::sleep(k, 0));
-    show(b"1 finishes", kernel::finish_wait(k, &mut room));
+    let mut k = show(rt, "enter", kernel::enter(contended(rt)?))?;
+    k = show(rt, "unlock from interrupt", kernel::unlock_interrupt(k, 0))?;
+    k = show(rt, "tick", kernel::tick(k))?;
+    k = show(rt, "exit", kernel::exit(k))?;
+    k = show(rt, "0 finishes", kernel::finish_wait(k, &mut room))?;
+    k = show(rt, "0 locks", kernel::lock(k, 0, 0))?;
+    k = show(rt, "0 sleeps 0", kernel::sleep(k, 0))?;
+    show(rt, "1 finishes", kernel::finish_wait(k, &mut room))?;
+    Ok(())
 }
 
-fn case_13() {
-    title(b"case 13");
+fn case_13(rt: &impl Print) -> io::Result<()> {
+    title(rt, "case 13")?;
     let mut k = setup(0, 3);
     k.ticks = 4294967295;
-    k = show(b"enter", kernel::enter(k));
-    k = show(b"tick", kernel::tick(k));
-    show(b"ticks", kernel::ticks(k));
+    k = show(rt, "enter", kernel::enter(k))?;
+    k = show(rt, "tick", kernel::tick(k))?;
+    show(rt, "ticks", kernel::ticks(k))?;
+    Ok(())
 }
 
-pub fn run() {
-    case_7();
-    case_8();
-    case_9();
-    case_10();
-    case_11();
-    case_12();
-    case_13();
+pub fn run(rt: &impl Print) -> io::Result<()> {
+    case_7(rt)?;
+    case_8(rt)?;
+    case_9(rt)?;
+    case_10(rt)?;
+    case_11(rt)?;
+    case_12(rt)?;
+    case_13(rt)
 }

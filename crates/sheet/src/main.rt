@@ -5,7 +5,9 @@ mod bench;
 mod cases1;
 mod cases2;
 
-fn main() {
-    cases1::run();
-    cases2::run();
+use std::io;
+
+fn main(rt: HostRuntime) -> io::Result<()> {
+    cases1::run(&rt)?;
+    cases2::run(&rt)
 }
