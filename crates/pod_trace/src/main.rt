@@ -2,12 +2,12 @@
 // and writes the header and a line for each record but the first.
 #![tactic(auto)]
 
-ghost use mathlib.Core.Path.{◌≡◌};
-ghost use Prim.Native.Nat.{◌*◌, ◌≤◌};
-ghost use lib.ListN.{length};
+ghost use Rattle.std.specs.Prelude.{◌≡◌, ◌*◌, ◌≤◌, length};
 
-use libc::{STDIN_FILENO, STDOUT_FILENO};
 use record::Kernel;
+use std::env;
+use std::fs::File;
+use std::io::{self, Read, Write};
 use text::scanner::Scan;
 use trace::records::Trace;
 
@@ -40,56 +40,55 @@ struct Went {
 }
 
 // Reads once, runs what came, writes what that gave, and answers whether to go on.
-fn turn(
-    fd: i32,
+fn turn<R: Read>(
+    rt: &impl Print,
+    reader: &mut R,
     buf: &mut [u8],
     line: &mut [u8; 65],
     room: &mut [u32; 2],
     out: &mut [u8],
     t: Trace,
-) -> Went
+) -> io::Result<Went>
     requires { 128 * length buf.old ≤ length out.old }
     ensures { (length buf.new ≡ length buf.old) × (length out.new ≡ length out.old) }
 {
-    let got = libc::read(fd, buf);
-    if got <= 0 {
-        return Went {
+    let n = reader.read(buf)?;
+    if n == 0 {
+        return Ok(Went {
             more: false,
             trace: t,
-        };
+        });
     }
-    let n = io::count(got, buf);
     let next = trace::records::run(&buf[0..n], line, room, out, again(t));
     let put = next.put;
-    let written = io::write_all(STDOUT_FILENO, &out[0..put]);
-    Went {
-        more: written,
+    io::writer(rt).write_all(&out[0..put])?;
+    Ok(Went {
+        more: true,
         trace: next,
-    }
+    })
 }
 
-// A proved loop has to end, and nothing says that the input does: the turns count down from a number that no run uses up.
-fn run_all(
-    fd: i32,
+// A proved loop has to end, and nothing says that the input does: the turns are counted, up to a number that no run uses up.
+fn run_all<R: Read>(
+    rt: &impl Print,
+    reader: &mut R,
     buf: &mut [u8],
     line: &mut [u8; 65],
     room: &mut [u32; 2],
     out: &mut [u8],
     from: Trace,
-) -> Trace
+) -> io::Result<Trace>
     requires { 128 * length buf.old ≤ length out.old }
 {
-    let mut turns = u64::MAX;
     let mut t = from;
-    while turns > 0 {
-        let went = turn(fd, buf, line, room, out, t);
+    for _ in 0..u64::MAX {
+        let went = turn(rt, reader, buf, line, room, out, t)?;
         t = went.trace;
         if !went.more {
             break;
         }
-        turns -= 1;
     }
-    t
+    Ok(t)
 }
 
 fn input_room() -> [u8; 16384]
@@ -105,30 +104,31 @@ fn output_room() -> [u8; 2097152]
     [0; 2097152]
 }
 
-fn run(fd: i32) {
-    io::write_all(STDOUT_FILENO, b"call,answer,value,running,ready\r\n");
+fn run<R: Read>(rt: &impl Print, reader: &mut R) -> io::Result<()> {
+    print!(rt; "call,answer,value,running,ready\r\n")?;
     let mut buf = input_room();
     let mut out = output_room();
     let mut line = [0u8; 65];
     let mut room = [0u32; 2];
-    let t = run_all(fd, &mut buf, &mut line, &mut room, &mut out, begin());
+    let t = run_all(
+        rt,
+        reader,
+        &mut buf,
+        &mut line,
+        &mut room,
+        &mut out,
+        begin(),
+    )?;
     let mut last = [0u8; 128];
     let put = trace::records::finish(&line, &mut room, &mut last, again(t));
-    io::write_all(STDOUT_FILENO, &last[0..put]);
+    io::writer(rt).write_all(&last[0..put])
 }
 
-fn main() {
-    if os::arg_count() < 2 {
-        run(STDIN_FILENO);
-        return;
+fn main(rt: HostRuntime) -> io::Result<()> {
+    let mut arguments = env::args(&rt)?;
+    let _name = arguments.next();
+    match arguments.next() {
+        Some(path) => run(&rt, &mut File::open(&rt, path.as_str())?),
+        None => run(&rt, &mut rt.stdin()),
     }
-    let mut path = io::buffer();
-    let n = os::arg(1, &mut path);
-    let fd = os::open_read(&path[0..n]);
-    if fd < 0 {
-        os::fail(&path[0..n]);
-        return;
-    }
-    run(fd);
-    libc::close(fd);
 }

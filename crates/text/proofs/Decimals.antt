@@ -5,13 +5,10 @@ use mathlib.Core.Path.{◌≡◌, refl, sym, ap, ◌∙◌}
 use mathlib.Core.Bool.{Bool, true, false, cond, not, ◌&&◌, ◌||◌, false≢true}
 use mathlib.Core.List.{List, [], ◌∷◌, ◌++◌}
 use native.Mathlib.Omega.{arith}
-use native.Mathlib.Numerals.{add-one}
-use native.Mathlib.Nat.{div-add-mod', div-lt_iff_lt-mul, pow-succ', mul_comm}
+use native.Mathlib.Nat.{div-lt_iff_lt-mul, pow-succ', mul_comm}
 use lib.Dec.{ltb, leb, eqb}
-use lib.ListN.{length, get_or, drop, length-append}
-use lib.Seq.{drop-cons, drop-length}
+use lib.ListN.{length, get_or, length-append}
 use borrow.Author.Tests.{lt-ltb, le-ltb, le-leb, lt-leb, eq-eqb, ne_eqb, ltb-true, ltb-false, leb-false}
-use Rattle.text.specs.declared.numbers.Parsed.{Parsed}
 use Rattle.text.specs.declared.numbers.Parsed.TheVariants.{Value, Bad}
 use Rattle.text.specs.Decimals.{is_digit, all_digits, onwards, value_of, is_plain, is_number, read, reaches, digit, spelled, digits}
 

@@ -4,8 +4,8 @@ use mathlib.Core.Path.{◌≡◌, refl, sym, ap, ◌∙◌}
 use mathlib.Core.List.{List, [], ◌∷◌, ◌++◌}
 use native.Mathlib.Omega.{arith}
 use native.Mathlib.Numerals.{add-one}
-use lib.ListN.{length, get_or, set, take, drop, length-append, length-take}
-use lib.Seq.{sets, length-sets, take-suc, take-length, sets-eq, take_at, length-take-le}
+use lib.ListN.{length, get_or, set, take, length-append}
+use lib.Seq.{sets, length-sets, take-suc, sets-eq, take_at, length-take-le}
 use Rattle.text.specs.Put.{Put}
 
 pub sets-append : (old : List ℕ) (at : ℕ) (s t : List ℕ) → sets old at (s ++ t) ≡ sets (sets old at s) (at + length s) t

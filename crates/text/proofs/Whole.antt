@@ -1,14 +1,14 @@
 -- The scanner finds exactly the records of the input, each cut to 65 bytes: what has come of a record under way stands in front of the first record of what
 -- is still to come. Assumes nothing.
-use Prim.Native.Nat.{ℕ, zero, suc, ◌+◌, ◌-◌, ◌≤◌, ◌<◌, min}
+use Prim.Native.Nat.{ℕ, ◌+◌, ◌-◌, ◌≤◌, ◌<◌, min}
 use mathlib.Core.Path.{◌≡◌, refl, sym, ap, ◌∙◌}
 use mathlib.Core.Bool.{Bool, true, false, cond, not, ◌&&◌, false≢true}
 use mathlib.Core.List.{List, [], ◌∷◌, ◌++◌, map, append_assoc, append-nil}
 use native.Mathlib.Omega.{arith}
 use native.Mathlib.Numerals.{add-one}
-use lib.Dec.{ltb, eqb}
-use lib.ListN.{length, take, set, length-append, length-set, length-take}
-use lib.Seq.{take_all, take-take, take-append-le, take-suc-set, take_at}
+use lib.Dec.{ltb}
+use lib.ListN.{length, take, set, length-append, length-set}
+use lib.Seq.{take_all, take-take, take-append-le, take-suc-set}
 use borrow.Author.Tests.{ltb-true, ltb-false, eq-eqb, ne_eqb, eqb-true}
 use Rattle.text.specs.declared.scanner.Scan.{Scan}
 use Rattle.text.specs.Records.{is_cr, is_lf, led, records}

@@ -1,5 +1,5 @@
 -- Where records and their fields end (01, Trace program; RFC 4180 without quotes). Only CRLF ends a record; the last may lack it. Commas part the fields.
-use Rattle.std.specs.Prelude.{ℕ, zero, suc, Bool, cond, ◌&&◌, List, [], ◌∷◌, eqb}
+use Rattle.std.specs.Prelude.{ℕ, suc, Bool, cond, ◌&&◌, List, [], ◌∷◌, eqb}
 
 -- CR is 13, LF is 10, a comma is 44
 abbrev pub is_cr : ℕ → Bool

@@ -1,6 +1,6 @@
 -- The scanner: records found in bytes that come one at a time or a chunk at a time. Its state is a few numbers; the bytes of the record under way stand in
 -- a lent line of 65 bytes: one more than a readable record has, for a CR that may turn out to be the first half of its end.
-use Rattle.std.specs.Prelude.{ℕ, ◌+◌, ◌-◌, Bool, true, false, cond, ◌&&◌, List, [], ◌∷◌, ◌++◌, ltb, eqb, set, take}
+use Rattle.std.specs.Prelude.{ℕ, ◌+◌, ◌-◌, Bool, true, false, cond, ◌&&◌, List, [], ◌∷◌, ltb, eqb, set, take}
 use Rattle.text.specs.declared.scanner.Scan.{Scan}
 use Rattle.text.specs.declared.scanner.Fed.{Fed}
 use Rattle.text.specs.Records.{is_cr, is_lf}

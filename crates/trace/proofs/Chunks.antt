@@ -1,7 +1,7 @@
 -- The trace, record by record and chunk by chunk, is the trace of the whole input, wherever that is cut. Assumes nothing.
-use Prim.Native.Nat.{ℕ, zero, suc, ◌+◌, ◌≤◌, ◌<◌}
+use Prim.Native.Nat.{ℕ, ◌+◌, ◌<◌}
 use mathlib.Core.Path.{◌≡◌, refl, sym, ap, ◌∙◌}
-use mathlib.Core.Bool.{Bool, true, false, cond, ◌||◌, false≢true}
+use mathlib.Core.Bool.{Bool, true, false, ◌||◌}
 use mathlib.Core.List.{List, [], ◌∷◌, ◌++◌, map, flatten, append_assoc, append-nil}
 use native.Mathlib.Omega.{arith}
 use lib.ListN.{length, take, drop, length-take}
@@ -12,8 +12,8 @@ use Rattle.rules.specs.Step.{State}
 use Rattle.text.specs.declared.scanner.Scan.{Scan}
 use Rattle.text.specs.declared.scanner.Fed.{Fed}
 use Rattle.text.specs.Records.{records}
-use Rattle.text.specs.Scan.{nothing, ends, grown, kept, Advanced, advanced, Found, found, last, cut}
-use Rattle.text.proofs.Scan.{thence, found-advanced, found-append, joined, advanced-open}
+use Rattle.text.specs.Scan.{nothing, Advanced, advanced, Found, found, last, cut}
+use Rattle.text.proofs.Scan.{thence, found-advanced, found-append, advanced-open}
 use Rattle.text.specs.Put.{Put}
 use Rattle.text.proofs.Put.{put_then, put_as}
 use Rattle.text.proofs.Whole.{whole}
@@ -21,7 +21,7 @@ use Rattle.trace.specs.declared.Command.{Command}
 use Rattle.trace.specs.Words.{command_of}
 use Rattle.trace.specs.Lines.{header}
 use Rattle.trace.specs.Output.{did, line_of, after, lines_of, start, output}
-use Rattle.trace.specs.Chunks.{Now, begin, unheaded, some, after_all, passed, lines_for, found_in, ran, text_of, last_text, written, ending, turned, turned_text}
+use Rattle.trace.specs.Chunks.{Now, begin, unheaded, some, after_all, passed, lines_for, found_in, ran, text_of, last_text, written, turned, turned_text}
 
 -- ---- records one after the other
 or-false : (b : Bool) → (b || false) ≡ b

@@ -1,18 +1,18 @@
 -- The table, by which fields are empty: then only the rows that use just the others can fit. Assumes nothing.
-use Prim.Native.Nat.{ℕ, ◌≤◌}
-use mathlib.Core.Path.{◌≡◌, refl, sym, ap, ◌∙◌}
+use Prim.Native.Nat.{ℕ}
+use mathlib.Core.Path.{◌≡◌, refl, ◌∙◌}
 use mathlib.Core.Bool.{Bool, true, false, cond, ◌&&◌}
 use mathlib.Core.List.{List, [], ◌∷◌}
 use native.Mathlib.Omega.{arith}
 use lib.Dec.{eqb, leb}
 use lib.ListN.{length}
 use Rattle.text.specs.Ascii.{ascii, same}
-use Rattle.text.specs.Decimals.{is_number, is_plain, value_of}
+use Rattle.text.specs.Decimals.{is_number, value_of}
 use Rattle.text.proofs.Decimals.{number-less, number-some}
 use Rattle.trace.proofs.Tests.{and-false}
 use Rattle.trace.specs.declared.Command.{Command}
 use Rattle.trace.specs.declared.Command.TheVariants.{Unreadable}
-use Rattle.trace.specs.Words.{Row, fits, words, matches, named}
+use Rattle.trace.specs.Words.{Row, fits, words, named}
 use Rattle.trace.specs.Groups.{chosen, with_none, with_a, with_both, after_a}
 
 -- ---- the fields looked at before the word

@@ -1,5 +1,5 @@
 -- Lines out (01, Trace program): the word, the answer, its value or refusal number, running, ready map.
-use Rattle.std.specs.Prelude.{ℕ, List, [], ◌∷◌, ◌++◌}
+use Rattle.std.specs.Prelude.{ℕ, List, [], ◌++◌}
 use Prim.Native.String.{String}
 use Rattle.rules.specs.Answers.{Said, done, waiting, timed_out, busy, value, refused}
 use Rattle.text.specs.Ascii.{ascii}

@@ -1,7 +1,6 @@
 -- Which call a record is (01, Trace program): one table of words, in the document's order, each with the fields that it uses.
 use Rattle.std.specs.Prelude.{ℕ, Bool, cond, ◌&&◌, List, [], ◌∷◌, eqb, leb, length}
 use Prim.Native.String.{String}
-use Rattle.maps.specs.declared.Number.{Number}
 use Rattle.ring.specs.declared.End.TheVariants.{Front, Back}
 use Rattle.rules.specs.declared.Call.{Call}
 use Rattle.rules.specs.declared.Call.TheVariants.{Enter, Exit, Switch, Process, Finish, Interrupt}

@@ -1,0 +1,13 @@
+-- `changes::slots::put_flags` meets its contract. The invariant: the first i slots are put. Assumes nothing.
+use Prim.Native.Nat.{◌+◌, ◌*◌, ◌-◌, ◌≤◌}
+use mathlib.Core.Path.{◌≡◌}
+use lib.ListN.{length}
+use Rattle.text.specs.Put.{Put}
+use Rattle.changes.specs.Changes.{flag_changes}
+use Rattle.changes.proofs.slots.put_flags.Given as goal
+
+abbrev pub invariant-loop-i : goal.invariant-loop-i
+invariant-loop-i l = (l.i ≤ l.n) × Put l.initial.out l.at (flag_changes l.a l.b l.i) l.place l.out × (l.place ≤ l.at + 41 * l.i) × (length l.out ≡ length l.initial.out)
+
+abbrev pub decreases-loop-i : goal.decreases-loop-i
+decreases-loop-i l = l.n - l.i
