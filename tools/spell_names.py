@@ -5,8 +5,8 @@ usage: python3 tools/spell_names.py [--see]       at the top of the repository, 
 
 Each part of a name that begins with a small letter and has capitals is written in snake case, wherever it stands in src/, specs/, proofs/ and must-fail/
 (`lowestBit` is `lowest_bit`, `putWords-mid` is `put_words-mid`). Names of types, facts and modules begin with a capital and stay; so do the names of
-src/, which were in snake case already. Strings stay. Before it writes anything it looks for names that would fall together, and stops at the first.
-With --see it lists the names and writes nothing.
+src/, which were in snake case already. Strings stay. It stops before it writes anything where two of the names would become one. With --see it writes
+nothing and lists each name, what it becomes, and files in which that stood already: functions of src/ mostly, and the lemmas of LEMMAS.
 """
 
 import os

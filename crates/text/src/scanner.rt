@@ -64,8 +64,8 @@ pub fn feed(line: &mut [u8; 65], s: Scan, b: u8) -> Fed
 // Takes bytes from place `at` on until a record ends or the input does.
 pub fn advance(input: &[u8], at: usize, line: &mut [u8; 65], s: Scan) -> Taken
     requires { at < length input.now }
-    ensures at_lt_at { (at < result.at) × (result.at ≤ length input.now) }
-    ensures line_value { advanced (drop at input.now) s line.old ≡ record { fed = result.fed; line = line.new; rest = drop result.at input.now } }
+    ensures further { (at < result.at) × (result.at ≤ length input.now) }
+    ensures scanned { advanced (drop at input.now) s line.old ≡ record { fed = result.fed; line = line.new; rest = drop result.at input.now } }
 {
     let mut i = at;
     let mut scan = s;

@@ -21,11 +21,11 @@ turn-t-requires c =
 
 pub loop-at-preserved : goal.loop-at-preserved
 loop-at-preserved c =
-    let e = c.advance-a.ensures.line_value in
+    let e = c.advance-a.ensures.scanned in
     let m = c.turn-t.ensures.0 in (
       search rules,
       put-length c.turn-t.ensures.1 ∙ c.loop-at.invariant.1,
-      omega (arith, c.turn-t.ensures.2, c.loop-at.invariant.2, c.advance-a.ensures.at_lt_at.0, c.advance-a.ensures.at_lt_at.1),
+      omega (arith, c.turn-t.ensures.2, c.loop-at.invariant.2, c.advance-a.ensures.further.0, c.advance-a.ensures.further.1),
       ap (ran _) (sym m) ∙ ran-turn (now_of c.loop-at.t c.loop-at.line c.loop-at.room) _ _ _ _ e ∙ c.loop-at.invariant.3,
       put_on (now_of c.loop-at.t c.loop-at.line c.loop-at.room) _ _ _ _ e _ m _ _ _ _ c.turn-t.ensures.1 _ _ _ c.loop-at.invariant.4,
     )
