@@ -1,4 +1,4 @@
 pub mod Parts
 pub mod Plain
-pub mod Past
+pub mod Words
 pub mod Examples

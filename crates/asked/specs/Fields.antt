@@ -35,8 +35,9 @@ one_number most s = eqb (count s) 3 && is_number most (field s 1) && empty (fiel
 unfoldable pub two_numbers : ℕ → List ℕ → Bool
 two_numbers most s = eqb (count s) 3 && is_number most (field s 1) && is_word (field s 2)
 
-abbrev pub numbers_from : List ℕ → ℕ → Bool
-numbers_from s n = all_below n (λ i. is_word (field s (i + 1)))
+-- n fields from field `first` on are numbers
+abbrev pub are_words : List ℕ → ℕ → ℕ → Bool
+are_words s first n = all_below n (λ i. is_word (field s (i + first)))
 
 unfoldable pub nine_numbers : List ℕ → Bool
-nine_numbers s = eqb (count s) 10 && numbers_from s 9
+nine_numbers s = eqb (count s) 10 && are_words s 1 9

@@ -1,5 +1,5 @@
 -- The parts of a text between marks: with commas they are a record's fields (crate text), with dots the parts of a wait.
-use Rattle.std.specs.Prelude.{ℕ, suc, cond, List, [], ◌∷◌, eqb, get_or}
+use Rattle.std.specs.Prelude.{ℕ, cond, List, [], ◌∷◌, eqb, get_or}
 use Rattle.text.specs.Records.{led}
 
 -- always one more than there are marks
@@ -10,8 +10,3 @@ parted mark (a ∷ rest) = cond (eqb a mark) ([] ∷ parted mark rest) (led a (p
 -- part n, and nothing where there is no such part
 abbrev pub part_at : ℕ → List ℕ → ℕ → List ℕ
 part_at mark s n = get_or (parted mark s) n []
-
--- how many bytes stand before the first mark
-unfoldable pub up_to : ℕ → List ℕ → ℕ
-up_to mark [] = 0
-up_to mark (a ∷ rest) = cond (eqb a mark) 0 (suc (up_to mark rest))

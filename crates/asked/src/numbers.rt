@@ -1,78 +1,67 @@
 // The numbers of a record, and the shapes of records.
-ghost use Rattle.std.specs.Prelude.{◌≡◌, ◌≤◌};
+ghost use Rattle.std.specs.Prelude.{◌≡◌};
 ghost use Rattle.text.specs.Decimals.{is_number};
-ghost use Rattle.asked.specs.Fields.{number, number_in, no_number, one_number, two_numbers, numbers_from, nine_numbers};
+ghost use Rattle.asked.specs.Table.{checked};
+ghost use Rattle.asked.specs.Fields.{field, is_word, number, number_in, no_number, one_number, two_numbers};
 
-use text::numbers::Parsed;
+use crate::Unreadable;
+use crate::split::{field, fields};
+use text::numbers::parse;
 
-pub fn is_number(s: &[u8], most: u64) -> bool
-    requires { most ≤ 4294967295 }
-    ensures { result ≡ is_number most s.now }
+// The largest number of 32 bits.
+pub(crate) const WORD: u32 = u32::MAX;
+
+// A plain decimal of at most `most`.
+#[tactic(auto, using(crate::proofs::Plain::read_number))]
+pub(crate) fn up_to(s: &[u8], most: u32) -> Result<u32, Unreadable>
+    ensures { result ≡ checked (is_number most s.now) (number s.now) }
 {
-    match text::numbers::parse(s, most) {
-        Parsed::Value(_) => true,
-        Parsed::Bad => false,
-    }
+    parse(s, most).ok_or(Unreadable)
 }
 
-// The number that a text is, and 0 where it is none.
-pub fn number_of(s: &[u8]) -> u32
-    ensures { result ≡ number s.now }
+pub(crate) fn number(s: &[u8]) -> Result<u32, Unreadable>
+    ensures { result ≡ checked (is_word s.now) (number s.now) }
 {
-    match text::numbers::parse(s, 4294967295) {
-        Parsed::Value(v) => v,
-        Parsed::Bad => 0,
-    }
+    up_to(s, WORD)
 }
 
-pub fn number_in(s: &[u8], n: usize) -> u32
-    ensures { result ≡ number_in s.now n }
+pub fn number_in(s: &[u8], n: usize) -> Result<u32, Unreadable>
+    ensures { result ≡ checked (is_word (field s.now n)) (number_in s.now n) }
 {
-    number_of(crate::split::field(s, n))
+    number(field(s, n))
 }
 
 // ---- shapes
 
-pub fn no_number(s: &[u8]) -> bool
-    ensures { result ≡ no_number s.now }
+// `WORD,,`
+#[tactic(auto, unfolding(crate::specs::Fields::no_number))]
+pub fn no_number(s: &[u8]) -> Result<(), Unreadable>
+    ensures { result ≡ checked (no_number s.now) tt }
 {
-    let a = crate::split::field(s, 1);
-    let b = crate::split::field(s, 2);
-    (crate::split::fields(s) == 3) & (a.len() == 0) & (b.len() == 0)
-}
-
-pub fn one_number(s: &[u8], most: u64) -> bool
-    requires { most ≤ 4294967295 }
-    ensures { result ≡ one_number most s.now }
-{
-    let a = crate::split::field(s, 1);
-    let b = crate::split::field(s, 2);
-    (crate::split::fields(s) == 3) & is_number(a, most) & (b.len() == 0)
-}
-
-pub fn two_numbers(s: &[u8], most: u64) -> bool
-    requires { most ≤ 4294967295 }
-    ensures { result ≡ two_numbers most s.now }
-{
-    let a = crate::split::field(s, 1);
-    let b = crate::split::field(s, 2);
-    (crate::split::fields(s) == 3) & is_number(a, most) & is_number(b, 4294967295)
-}
-
-fn numbers_from(s: &[u8]) -> bool
-    ensures { result ≡ numbers_from s.now 9 }
-{
-    let mut all = true;
-    let mut i = 0;
-    while i < 9 {
-        i += 1;
-        all = all & is_number(crate::split::field(s, i), 4294967295);
+    if fields(s) == 3 && field(s, 1).is_empty() && field(s, 2).is_empty() {
+        return Ok(());
     }
-    all
+    Err(Unreadable)
 }
 
-pub fn nine_numbers(s: &[u8]) -> bool
-    ensures { result ≡ nine_numbers s.now }
+// `WORD,A,`
+#[tactic(auto, unfolding(crate::specs::Fields::one_number))]
+pub fn one_number(s: &[u8], most: u32) -> Result<u32, Unreadable>
+    ensures { result ≡ checked (one_number most s.now) (number_in s.now 1) }
 {
-    (crate::split::fields(s) == 10) & numbers_from(s)
+    if fields(s) == 3 && field(s, 2).is_empty() {
+        return up_to(field(s, 1), most);
+    }
+    Err(Unreadable)
+}
+
+// `WORD,A,B`
+#[tactic(auto, unfolding(crate::specs::Fields::two_numbers))]
+pub fn two_numbers(s: &[u8], most: u32) -> Result<(u32, u32), Unreadable>
+    ensures { result ≡ checked (two_numbers most s.now) (number_in s.now 1, number_in s.now 2) }
+{
+    if fields(s) == 3 {
+        return Ok((up_to(field(s, 1), most)?, number_in(s, 2)?));
+    }
+    Err(Unreadable)
 }

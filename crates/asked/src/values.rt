@@ -1,154 +1,109 @@
-// An end, an owner and a wait as text.
-ghost use Rattle.std.specs.Prelude.{◌≡◌, cond};
-ghost use Rattle.asked.specs.Fields.{number};
-ghost use Rattle.asked.specs.Values.{part, named, is_end, end_of, is_owner, owner_of, is_sleep, is_at, is_push, is_pop, channel_wait, wait_of};
+// Words, an end, an owner and a wait as text.
+ghost use Rattle.std.specs.Prelude.{◌≡◌};
+ghost use Rattle.std.specs.Bool.{then_some};
+ghost use Rattle.asked.specs.Table.{SameWords};
+ghost use Rattle.asked.specs.Fields.{is_word, number};
+ghost use Rattle.asked.specs.Values.{part, is_bit, bit, is_end, end_of, is_owner, owner_of, wait_of};
 
+use crate::numbers::WORD;
+use crate::split::{count, part};
 use maps::Number;
-use record::{Owner, Wait};
+use record::Wait;
 use ring::End;
+use text::numbers::parse;
 
-#[derive(Clone, Copy)]
-pub enum WaitRead {
-    Is(Wait),
-    None,
+// A word as text, and no text where it is none: each word of the tables is ASCII.
+// Tried, a match on byte strings, by itself and with a lemma like trace's `words_read`: a proof splits at every byte, and in the tables whose rows end in `?`
+// three and eleven goals stayed open.
+pub(crate) fn word(s: &[u8]) -> &str
+    ensures { SameWords result.now s.now }
+{
+    std::str::from_utf8(s).unwrap_or("")
+}
+
+// ---- yes or no
+
+#[tactic(auto, using(crate::proofs::Plain::read_number))]
+pub(crate) fn bit(s: &[u8]) -> Option<bool>
+    ensures { result ≡ then_some (is_bit s.now) (bit s.now) }
+{
+    Some(parse(s, 1)? == 1)
 }
 
 // ---- an end
 
-fn is_end(s: &[u8]) -> bool
-    ensures { result ≡ is_end s.now }
+#[tactic(auto, using(crate::proofs::Words::same_not), unfolding(crate::specs::Table::is_ascii, crate::specs::Values::is_end, crate::specs::Values::end_of))]
+fn end_of(s: &[u8]) -> Option<End>
+    ensures { result ≡ then_some (is_end s.now) (end_of s.now) }
 {
-    text::fields::same(s, b"front") | text::fields::same(s, b"back")
-}
-
-fn end_of(s: &[u8]) -> End
-    ensures { result ≡ end_of s.now }
-{
-    if text::fields::same(s, b"front") {
-        return End::Front;
+    match word(s) {
+        "front" => Some(End::Front),
+        "back" => Some(End::Back),
+        _ => None,
     }
-    End::Back
 }
 
 // ---- an owner
 
-pub fn is_owner(s: &[u8]) -> bool
-    ensures { result ≡ is_owner s.now }
+#[tactic(auto, using(crate::proofs::Words::same_not, crate::proofs::Plain::read_number), unfolding(crate::specs::Table::is_ascii, crate::specs::Values::is_owner, crate::specs::Values::owner_of))]
+pub fn owner_of(s: &[u8]) -> Option<Option<Number>>
+    ensures { result ≡ then_some (is_owner s.now) (owner_of s.now) }
 {
-    text::fields::same(s, b"nobody") | crate::numbers::is_number(s, 4294967295)
-}
-
-pub fn owner_of(s: &[u8]) -> Owner
-    ensures { result ≡ owner_of s.now }
-{
-    if text::fields::same(s, b"nobody") {
-        return Owner::Nobody;
+    match word(s) {
+        "nobody" => Some(None),
+        _ => Some(Some(Number(parse(s, WORD)?))),
     }
-    let p = Number(crate::numbers::number_of(s));
-    Owner::Process(p)
 }
 
-// ---- a wait
+// ---- a wait: its parts stand between dots, and the first says which wait it is
 
-// It has n parts, and the first is this word.
-fn is_named(s: &[u8], word: &[u8], n: usize) -> bool
-    ensures { result ≡ named s.now word.now n }
+// Each reads one part, as `number (part ..)` and its like of specs/Values: in the arms below the part and its mark would stand nine times, which is no plainer.
+#[tactic(auto, using(crate::proofs::Plain::read_number))]
+fn number_at(s: &[u8], n: usize) -> Option<u32>
+    ensures { result ≡ then_some (is_word (part s.now n)) (number (part s.now n)) }
 {
-    text::fields::same(crate::split::part(s, 46, 0), word) & (crate::split::count(s, 46) == n)
+    parse(part(s, b'.', n), WORD)
 }
 
-fn is_sleep(s: &[u8]) -> bool
-    ensures { result ≡ is_sleep s.now }
+fn bit_at(s: &[u8], n: usize) -> Option<bool>
+    ensures { result ≡ then_some (is_bit (part s.now n)) (bit (part s.now n)) }
 {
-    is_named(s, b"sleep", 2) & crate::numbers::is_number(crate::split::part(s, 46, 1), 1)
+    bit(part(s, b'.', n))
 }
 
-// A flag's or a mutex's.
-fn is_at(s: &[u8], word: &[u8]) -> bool
-    ensures { result ≡ is_at s.now word.now }
+fn end_at(s: &[u8], n: usize) -> Option<End>
+    ensures { result ≡ then_some (is_end (part s.now n)) (end_of (part s.now n)) }
 {
-    let i = crate::split::part(s, 46, 1);
-    let l = crate::split::part(s, 46, 2);
-    is_named(s, word, 3)
-        & crate::numbers::is_number(i, 4294967295)
-        & crate::numbers::is_number(l, 1)
+    end_of(part(s, b'.', n))
 }
 
-fn is_push(s: &[u8]) -> bool
-    ensures { result ≡ is_push s.now }
-{
-    let i = crate::split::part(s, 46, 1);
-    let e = crate::split::part(s, 46, 2);
-    let item = crate::split::part(s, 46, 3);
-    is_named(s, b"push", 4)
-        & crate::numbers::is_number(i, 4294967295)
-        & is_end(e)
-        & crate::numbers::is_number(item, 4294967295)
-}
-
-fn is_pop(s: &[u8]) -> bool
-    ensures { result ≡ is_pop s.now }
-{
-    let i = crate::split::part(s, 46, 1);
-    let e = crate::split::part(s, 46, 2);
-    let l = crate::split::part(s, 46, 3);
-    is_named(s, b"pop", 4)
-        & crate::numbers::is_number(i, 4294967295)
-        & is_end(e)
-        & crate::numbers::is_number(l, 1)
-}
-
-fn number_at(s: &[u8], n: usize) -> u32
-    ensures { result ≡ number (part s.now n) }
-{
-    crate::numbers::number_of(crate::split::part(s, 46, n))
-}
-
-fn wait_if(is: bool, w: Wait, after: WaitRead) -> WaitRead
-    ensures { result ≡ cond is (WaitRead.Is w) after }
-{
-    if is {
-        return WaitRead::Is(w);
-    }
-    after
-}
-
-// ---- the table of waits, from its end
-
-fn channel_wait(s: &[u8]) -> WaitRead
-    ensures { result ≡ channel_wait s.now }
-{
-    let at = number_at(s, 1);
-    let end = end_of(crate::split::part(s, 46, 2));
-    let third = number_at(s, 3);
-    let w = wait_if(
-        is_pop(s),
-        Wait::Pop {
-            at,
-            end,
-            limited: third == 1,
-        },
-        WaitRead::None,
-    );
-    wait_if(
-        is_push(s),
-        Wait::Push {
-            at,
-            item: third,
-            end,
-        },
-        w,
-    )
-}
-
-pub fn wait_of(s: &[u8]) -> WaitRead
+#[tactic(auto, using(crate::proofs::Words::same_not), unfolding(crate::specs::Table::is_ascii, crate::specs::Values::is_sleep, crate::specs::Values::is_at, crate::specs::Values::is_push, crate::specs::Values::is_pop, crate::specs::Values::channel_wait, crate::specs::Values::wait_of))]
+pub fn wait_of(s: &[u8]) -> Option<Wait>
     ensures { result ≡ wait_of s.now }
 {
-    let at = number_at(s, 1);
-    let limited = number_at(s, 2) == 1;
-    let w = channel_wait(s);
-    let w = wait_if(is_at(s, b"mutex"), Wait::Mutex { at, limited }, w);
-    let w = wait_if(is_at(s, b"flag"), Wait::Flag { at, limited }, w);
-    let w = wait_if(is_sleep(s), Wait::Sleep { limited: at == 1 }, w);
-    wait_if(is_named(s, b"none", 1), Wait::Nothing, w)
+    match (word(part(s, b'.', 0)), count(s, b'.')) {
+        ("none", 1) => Some(Wait::Nothing),
+        ("sleep", 2) => Some(Wait::Sleep {
+            limited: bit_at(s, 1)?,
+        }),
+        ("flag", 3) => Some(Wait::Flag {
+            at: number_at(s, 1)?,
+            limited: bit_at(s, 2)?,
+        }),
+        ("mutex", 3) => Some(Wait::Mutex {
+            at: number_at(s, 1)?,
+            limited: bit_at(s, 2)?,
+        }),
+        ("push", 4) => Some(Wait::Push {
+            at: number_at(s, 1)?,
+            end: end_at(s, 2)?,
+            item: number_at(s, 3)?,
+        }),
+        ("pop", 4) => Some(Wait::Pop {
+            at: number_at(s, 1)?,
+            end: end_at(s, 2)?,
+            limited: bit_at(s, 3)?,
+        }),
+        _ => None,
+    }
 }

@@ -1,17 +1,18 @@
-// A call judged and carried out over its parts. What each accepted call asks of the parts, the room and the numbers is given by the verdict.
+// An accepted call carried out: over the parts of the record that it works on, and over the part of the room that starts at its channel's offset. What a
+// call asks of them (that its channel is there, that the depth may move) it has by acceptance.
 #![tactic(auto)]
 
-ghost use Rattle.std.specs.Prelude.{◌≡◌, ◌≤◌, true, length, ◌==◌};
-ghost use Rattle.room.specs.Room.{offset};
-ghost use Rattle.rules.specs.Calls.{named_by, owner_named};
-ghost use Rattle.rules.specs.Refusals.{first, table};
-ghost use Rattle.parts.specs.Step.{effect, settle};
+ghost use Rattle.std.specs.Prelude.{◌≡◌, length, Ok};
+ghost use Rattle.rules.specs.Answers.{said};
+ghost use Rattle.rules.specs.Refusals.{verdict};
+ghost use Rattle.rules.specs.Step.{effect};
+ghost use Rattle.parts.specs.Step.{effect as effect_over};
 ghost use Rattle.carry.specs.Needed.{Needed};
+ghost use Rattle.carry.specs.Targets.{lent};
 
-use parts::{Did, Parts};
-use record::{Mutex, Setup, Wait};
-use ring::Channel;
-use rules::{Answer, Call, Verdict};
+use parts::Parts;
+use record::Kernel;
+use rules::{Answer, Call};
 
 pub mod interrupts;
 pub mod others;
@@ -19,65 +20,35 @@ pub mod requests;
 pub mod spots;
 pub mod ticks;
 
-// Of an accepted call, with n processes.
-fn carry_out(
-    x: Parts,
-    n: u32,
-    ticks: u32,
-    channel: [Channel; 4],
-    room: &mut [u32],
-    from: &[u32],
-    to: &mut [u32],
-    c: Call,
-) -> Did
-    requires { Needed x channel (length room.old) c }
-    ensures { effect x n ticks channel room.old from.now to.old c ≡ record { answer = result.answer; parts = result.parts; room = room.new; block = to.new } }
+fn carry_out_over(x: &mut Parts, part: &mut [u32], from: &[u32], to: &mut [u32], c: Call) -> Answer
+    requires { Needed x.old (length part.old) c }
+    ensures { effect_over x.old part.old from.now to.old c ≡ record { answer = result; parts = x.new; part = part.new; block = to.new } }
 {
     match c {
         Call::Enter => others::enter(x),
         Call::Exit => others::exit(x),
         Call::Switch => others::switch(x),
-        Call::Reading(r) => others::read(x, n, ticks, r),
-        Call::Process(q) => requests::request(x, channel, room, q),
-        Call::Finish => parts::finish::finish_wait(x, channel, room),
-        Call::Interrupt(i) => interrupts::interrupt(x, channel, room, from, to, i),
+        Call::Reading(r) => others::read(x, r),
+        Call::Process(q) => requests::request(x, part, q),
+        Call::Finish => x.finish_wait(part),
+        Call::Interrupt(i) => interrupts::interrupt(x, part, from, to, i),
     }
 }
 
-// Of any call: whether the record is sound, its setup and ticks, the parts, the caller's open wait, the mutexes and the channels.
-pub fn settle(
-    sound: bool,
-    setup: Setup,
-    ticks: u32,
-    x: Parts,
-    wait: Wait,
-    mutex: [Mutex; 8],
-    channel: [Channel; 4],
-    room: &mut [u32],
-    from: &[u32],
-    to: &mut [u32],
-    c: Call,
-) -> Did
-    requires { (sound ≡ true → (2 ≤ setup.processes) × (setup.channels ≤ 4)) × (first (table (record { sound = sound; fits = (length room.old == offset channel setup.channels); setup = setup; depth = x.depth; running = x.running; next = x.next; wait = wait; owner = owner_named mutex (named_by c) }) c) ≡ Verdict.Accepted → Needed x channel (length room.old) c) }
-    ensures { settle x setup.processes ticks channel room.old from.now to.old c (first (table (record { sound = sound; fits = (length room.old == offset channel setup.channels); setup = setup; depth = x.depth; running = x.running; next = x.next; wait = wait; owner = owner_named mutex (named_by c) }) c)) ≡ record { answer = result.answer; parts = result.parts; room = room.new; block = to.new } }
+// The room and the two blocks stay three parameters: in a struct they would be `x.entry.room.now` and `x.exit.room.now` in the contracts, which is no plainer.
+
+// The record is stored to where the parts stand, and nowhere else but by a tick. A write from interrupt is lent the first block, every other call the second.
+pub fn carry_out(k: &mut Kernel, room: &mut [u32], from: &[u32], to: &mut [u32], c: Call) -> Answer
+    requires { verdict k.old (length room.old) c ≡ Ok tt }
+    ensures { effect k.old room.old (lent c from.now to.old) c ≡ record { answer = said result; kernel = k.new; room = room.new; block = lent c from.now to.new } }
 {
-    let v = judge::judge_call(
-        sound,
-        setup,
-        x.depth,
-        x.running,
-        x.next,
-        wait,
-        mutex,
-        channel,
-        room.len(),
-        c,
-    );
-    match v {
-        Verdict::Accepted => carry_out(x, setup.processes, ticks, channel, room, from, to, c),
-        Verdict::Refused(n) => Did {
-            answer: Answer::Refused(n),
-            parts: x,
-        },
+    let s = spots::worked_on(k, c);
+    let start = room::start_of(k.channel, s.channel, room.len());
+    let mut x = Parts::of(k, s);
+    let answer = carry_out_over(&mut x, &mut room[start..], from, to, c);
+    x.put_back(k, s);
+    if ticks::is_tick(c) {
+        ticks::tick(k);
     }
+    answer
 }

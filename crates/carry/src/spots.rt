@@ -1,52 +1,25 @@
-// What a call works on, and which of two blocks it is lent.
-ghost use Rattle.std.specs.Prelude.{◌≡◌};
-ghost use Rattle.parts.specs.Spots.{slots, inside, Inside};
-ghost use Rattle.carry.specs.Targets.{target, is_write_i, is_write};
+// What an accepted call works on, and which of two blocks a call is lent.
+ghost use Rattle.std.specs.Prelude.{◌≡◌, ◌<◌};
+ghost use Rattle.carry.specs.Targets.{worked_on, is_write};
 
-use maps::Number;
 use parts::Spot;
-use record::Wait;
-use rules::{Call, Interrupt, Named};
+use record::Kernel;
+use rules::{Call, Interrupt};
 
-// Finish names what the caller's open wait names.
-fn target_of(w: Wait, c: Call) -> Named
-    ensures { result ≡ target w c }
+// Finish works on what the caller's open wait names.
+pub fn worked_on(k: &Kernel, c: Call) -> Spot
+    requires { k.now.running.0 < 32 }
+    ensures { result ≡ worked_on k.now c }
 {
-    if judge::calls::is_finish(c) {
-        return parts::spots::named_by_wait(w);
-    }
-    judge::named::named_by(c)
-}
-
-// Always in their tables.
-pub fn spot_of(running: Number, w: Wait, c: Call) -> Spot
-    ensures { (result ≡ inside (slots running.0 (target w c))) × Inside result }
-{
-    parts::spots::inside(parts::spots::slots_of(running, target_of(w, c)))
-}
-
-fn writes(i: Interrupt) -> bool
-    ensures { result ≡ is_write_i i }
-{
-    match i {
-        Interrupt::Tick => false,
-        Interrupt::Signal { flag: _ } => false,
-        Interrupt::Unlock { mutex: _ } => false,
-        Interrupt::Write { channel: _ } => true,
-        Interrupt::Read { channel: _ } => false,
-    }
+    let named = match c {
+        Call::Finish => parts::spots::named_by_wait(k.process[k.running.0 as usize].wait),
+        _ => judge::named::named_by(c),
+    };
+    Spot::of(k.running, named)
 }
 
 pub fn is_write(c: Call) -> bool
     ensures { result ≡ is_write c }
 {
-    match c {
-        Call::Enter => false,
-        Call::Exit => false,
-        Call::Switch => false,
-        Call::Reading(_) => false,
-        Call::Process(_) => false,
-        Call::Finish => false,
-        Call::Interrupt(i) => writes(i),
-    }
+    matches!(c, Call::Interrupt(Interrupt::Write { .. }))
 }

@@ -1,93 +1,31 @@
-// The tick: whether a call counts one, and what becomes of the tick count and of a process's counter.
-ghost use Rattle.std.specs.Prelude.{◌≡◌, ◌-◌, ◌^◌, ◌<◌, ◌≤◌, true, if◌then◌else◌, nat_eq};
-ghost use Rattle.carry.specs.Ticks.{is_tick_i, is_tick, is_done, counts, ticks_after, falling};
+// The tick, which is no matter of one slot.
+ghost use Rattle.std.specs.Prelude.{◌≡◌, ◌≤◌};
+ghost use Rattle.rules.specs.Effects.{ticked};
+ghost use Rattle.carry.specs.Ticks.{is_tick};
 
 use maps::Number;
-use rules::{Answer, Call, Interrupt};
+use record::Kernel;
+use rules::{Call, Interrupt};
 
-fn ticks(i: Interrupt) -> bool
-    ensures { result ≡ is_tick_i i }
-{
-    match i {
-        Interrupt::Tick => true,
-        Interrupt::Signal { flag: _ } => false,
-        Interrupt::Unlock { mutex: _ } => false,
-        Interrupt::Write { channel: _ } => false,
-        Interrupt::Read { channel: _ } => false,
-    }
-}
-
-fn is_tick(c: Call) -> bool
+pub fn is_tick(c: Call) -> bool
     ensures { result ≡ is_tick c }
 {
-    match c {
-        Call::Enter => false,
-        Call::Exit => false,
-        Call::Switch => false,
-        Call::Reading(_) => false,
-        Call::Process(_) => false,
-        Call::Finish => false,
-        Call::Interrupt(i) => ticks(i),
-    }
+    matches!(c, Call::Interrupt(Interrupt::Tick))
 }
 
-fn is_done(a: Answer) -> bool
-    ensures { result ≡ is_done a }
+// The tick count wraps. A counter above 0 falls by one, and at 0 its process becomes ready.
+pub fn tick(k: &mut Kernel)
+    requires { (2 ≤ k.old.setup.processes) × (k.old.setup.processes ≤ 32) }
+    ensures { k.new ≡ ticked k.old }
 {
-    match a {
-        Answer::Done => true,
-        Answer::Waiting => false,
-        Answer::TimedOut => false,
-        Answer::Busy => false,
-        Answer::Value(_) => false,
-        Answer::Refused(_) => false,
+    k.ticks = k.ticks.wrapping_add(1);
+    let users = (k.setup.processes - 1) as usize;
+    let mut ready = k.ready;
+    for (p, row) in k.process[..users].iter_mut().enumerate() {
+        if row.counter == 1 {
+            ready |= maps::tag_of(Number(p as u32)).0;
+        }
+        row.counter = row.counter.saturating_sub(1);
     }
-}
-
-// A call with this answer counts a tick.
-pub fn counts(c: Call, a: Answer) -> bool
-    ensures { result ≡ counts c a }
-{
-    is_tick(c) & is_done(a)
-}
-
-pub fn ticks_after(counts: bool, ticks: u32) -> u32
-    ensures { result ≡ ticks_after counts ticks }
-{
-    if counts {
-        return std::num::wrapping_add_u32(ticks, 1);
-    }
-    ticks
-}
-
-// How many counters fall, of n processes: those of the user processes.
-pub fn falling(counts: bool, n: u32) -> u32
-    requires { counts ≡ true → (2 ≤ n) × (n ≤ 32) }
-    ensures { (result ≡ falling counts n) × (result < 32) }
-{
-    if counts {
-        return n - 1;
-    }
-    0
-}
-
-// A counter above 0 falls by one.
-pub fn lowered(counter: u16) -> u16
-    ensures { result ≡ counter - 1 }
-{
-    if counter == 0 {
-        return 0;
-    }
-    counter - 1
-}
-
-// The tag of a process whose counter reaches 0.
-pub fn due(counter: u16, p: u32) -> u32
-    requires { p < 32 }
-    ensures { result ≡ (if nat_eq counter 1 then 2 ^ p else 0) }
-{
-    if counter == 1 {
-        return maps::tag_of(Number(p)).0;
-    }
-    0
+    k.ready = ready;
 }

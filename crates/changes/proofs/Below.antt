@@ -1,26 +1,20 @@
 -- Texts put slot by slot. Assumes nothing.
-use Prim.Native.Nat.{ℕ, ◌+◌}
-use mathlib.Core.Path.{◌≡◌, ap}
-use mathlib.Core.List.{List}
-use native.Mathlib.Numerals.{add-one}
-use Rattle.text.specs.Put.{Put}
-use Rattle.text.proofs.Put.{put-nothing, put_then, put_as}
+use Rattle.std.proofs.Common.{◌≡◌, ℕ, ◌+◌, ◌<◌, List, ◌∷◌, ◌++◌, length, get_or, drop, length-drop, add-one, append_assoc, ap, sym, ◌∙◌, arith}
+use Rattle.std.proofs.lemmas.List.{drop_more}
 use Rattle.changes.specs.Changes.{below}
 
--- before the first slot nothing is put
-pub below_none : (f : ℕ → List ℕ) (old : List ℕ) (at : ℕ) → Put old at (below 0 f) at old
-unfolding below
-below_none f old at = put-nothing old at
-
--- one slot more
+-- what is put of one slot more stands after what was put of those before it
 pub below_next :
-    (f : ℕ → List ℕ) (n : ℕ) {a b c : List ℕ} {i j k : ℕ} →
-    Put a i (below n f) j b → Put b j (f n) k c → Put a i (below (n + 1) f) k c
+    (f : ℕ → List ℕ) (n : ℕ) (old so_far new : List ℕ) →
+    so_far ≡ old ++ below n f → new ≡ so_far ++ f n → new ≡ old ++ below (n + 1) f
 unfolding below
-below_next f n p q = rw (add-one n) (put_then p q)
+below_next f n old so_far new p q = rw add-one (q ∙ ap (λ s. s ++ f n) p ∙ append_assoc old (below n f) (f n))
 
--- all slots, when the count of those that are put is all
-pub below_all :
-    (f : ℕ → List ℕ) {a b : List ℕ} {i j m n : ℕ} →
-    m ≡ n → Put a i (below m f) j b → Put a i (below n f) j b
-below_all f e p = put_as _ (ap (λ (k : ℕ). below k f) e) p
+-- the first of what is left of a list after i of its items, and what is left after it
+pub rest_next :
+    {T : Type 0} (xs rest : List T) (i : ℕ) (x none : T) → drop i xs ≡ x ∷ rest →
+    (i < length xs) × (x ≡ get_or xs i none) × (rest ≡ drop (i + 1) xs)
+rest_next xs rest i x none e =
+    let within : i < length xs = omega (arith, length-drop i xs, ap length e) in
+    let more : x ∷ rest ≡ get_or xs i none ∷ drop (i + 1) xs = sym e ∙ drop_more xs i none within in
+    (within, cc, cc)

@@ -1,4 +1,4 @@
-pub mod Below
-pub mod Exact
 pub mod Lengths
+pub mod Below
 pub mod Same
+pub mod Exact

@@ -1,5 +1,5 @@
 -- The fields that differ between two records, in the order of the replay program: a is the record before, b the one after.
-use Rattle.std.specs.Prelude.{ℕ, zero, suc, List, [], ◌++◌, get_or}
+use Rattle.std.specs.Prelude.{ℕ, zero, suc, List, [], ◌++◌, get_or, Option}
 use Prim.Native.String.{String}
 use Rattle.text.specs.Ascii.{ascii}
 use Rattle.ring.specs.declared.Channel.{Channel}
@@ -8,7 +8,7 @@ use Rattle.record.specs.declared.Setup.{Setup}
 use Rattle.record.specs.declared.Process.{Process}
 use Rattle.record.specs.declared.Flag.{Flag}
 use Rattle.record.specs.declared.Mutex.{Mutex}
-use Rattle.record.specs.declared.Owner.{Owner}
+use Rattle.maps.specs.declared.Number.{Number}
 use Rattle.record.specs.declared.Wait.{Wait}
 use Rattle.record.specs.Record.{no_process, no_flag, no_mutex, no_channel}
 use Rattle.changes.specs.Values.{bit, owner_text, wait_text, same_owner, same_wait}
@@ -41,7 +41,7 @@ of_slot name i a b = number (slot (ascii name) i) a b
 abbrev pub wait_change : ℕ → Wait → Wait → List ℕ
 wait_change p a b = change (same_wait a b) (slot (ascii "wait") p) (wait_text b)
 
-abbrev pub owner_change : ℕ → Owner → Owner → List ℕ
+abbrev pub owner_change : ℕ → Option Number → Option Number → List ℕ
 owner_change i a b = change (same_owner a b) (slot (ascii "owner") i) (owner_text b)
 
 unfoldable pub process_change : ℕ → Process → Process → List ℕ
@@ -67,17 +67,21 @@ unfoldable pub below : ℕ → (ℕ → List ℕ) → List ℕ
 below zero f = []
 below (suc i) f = below i f ++ f i
 
+-- what `change` prints of the slots below n of two tables; past its end a table has slots like `none`
+abbrev pub slots : {T : Type 0} → (ℕ → T → T → List ℕ) → T → List T → List T → ℕ → List ℕ
+slots change none a b n = below n (λ i. change i (get_or a i none) (get_or b i none))
+
 abbrev pub process_changes : List Process → List Process → ℕ → List ℕ
-process_changes a b n = below n (λ p. process_change p (get_or a p no_process) (get_or b p no_process))
+process_changes a b n = slots process_change no_process a b n
 
 abbrev pub flag_changes : List Flag → List Flag → ℕ → List ℕ
-flag_changes a b n = below n (λ i. flag_change i (get_or a i no_flag) (get_or b i no_flag))
+flag_changes a b n = slots flag_change no_flag a b n
 
 abbrev pub mutex_changes : List Mutex → List Mutex → ℕ → List ℕ
-mutex_changes a b n = below n (λ i. mutex_change i (get_or a i no_mutex) (get_or b i no_mutex))
+mutex_changes a b n = slots mutex_change no_mutex a b n
 
 abbrev pub channel_changes : List Channel → List Channel → ℕ → List ℕ
-channel_changes a b n = below n (λ i. channel_change i (get_or a i no_channel) (get_or b i no_channel))
+channel_changes a b n = slots channel_change no_channel a b n
 
 -- ---- the record
 unfoldable pub changes : Kernel → Kernel → List ℕ

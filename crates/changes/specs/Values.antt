@@ -1,14 +1,14 @@
 -- The values of the fields: their text, and when two waits or owners are the same.
-use Rattle.std.specs.Prelude.{ℕ, Bool, true, false, cond, ◌&&◌, List, ◌++◌, eqb}
+use Rattle.std.specs.Prelude.{ℕ, Bool, true, false, cond, ◌&&◌, List, ◌++◌, eqb, Option, None, Some}
+use Rattle.std.specs.Bool.{beq}
+use Rattle.std.specs.Option.{option_eq}
 use Rattle.text.specs.Ascii.{ascii}
 use Rattle.text.specs.Decimals.{digits}
 use Rattle.ring.specs.declared.End.{End}
 use Rattle.ring.specs.declared.End.TheVariants.{Front, Back}
-use Rattle.record.specs.declared.Owner.{Owner}
-use Rattle.record.specs.declared.Owner.TheVariants.{Nobody, Process}
+use Rattle.maps.specs.declared.Number.{Number}
 use Rattle.record.specs.declared.Wait.{Wait}
 use Rattle.record.specs.declared.Wait.TheVariants.{Nothing, Sleep, Flag, Mutex, Push, Pop}
-use Rattle.changes.specs.declared.values.Parts.{Parts}
 
 -- ---- text
 
@@ -20,9 +20,9 @@ abbrev pub end_text : End → List ℕ
 end_text Front = ascii "front"
 end_text Back = ascii "back"
 
-abbrev pub owner_text : Owner → List ℕ
-owner_text Nobody = ascii "nobody"
-owner_text (Process p) = digits p.0
+abbrev pub owner_text : Option Number → List ℕ
+owner_text None = ascii "nobody"
+owner_text (Some p) = digits p.0
 
 abbrev pub wait_text : Wait → List ℕ
 wait_text Nothing = ascii "none"
@@ -32,28 +32,20 @@ wait_text (Mutex i l) = ascii "mutex." ++ digits i ++ ascii "." ++ digits (bit l
 wait_text (Push i item e) = ascii "push." ++ digits i ++ ascii "." ++ end_text e ++ ascii "." ++ digits item
 wait_text (Pop i e l) = ascii "pop." ++ digits i ++ ascii "." ++ end_text e ++ ascii "." ++ digits (bit l)
 
--- ---- the same, decided on the values. That `same_wait` and `same_owner` are true exactly of equal ones is proved (proofs/Same)
-abbrev pub same_owner : Owner → Owner → Bool
-same_owner Nobody Nobody = true
-same_owner Nobody (Process q) = false
-same_owner (Process p) Nobody = false
-same_owner (Process p) (Process q) = eqb p.0 q.0
+-- ---- the same. That `same_wait` and `same_owner` are true exactly of equal ones is proved (proofs/Same)
+abbrev pub same_owner : Option Number → Option Number → Bool
+same_owner a b = option_eq (λ p q. eqb p.0 q.0) a b
 
--- a wait's parts as numbers, 0 for a part that it has not
-abbrev pub front_of : End → ℕ
-front_of Front = 1
-front_of Back = 0
-
-abbrev pub parts_of : Wait → Parts
-parts_of Nothing = record { kind = 0; at = 0; item = 0; front = 0; limited = 0 }
-parts_of (Sleep l) = record { kind = 1; at = 0; item = 0; front = 0; limited = bit l }
-parts_of (Flag i l) = record { kind = 2; at = i; item = 0; front = 0; limited = bit l }
-parts_of (Mutex i l) = record { kind = 3; at = i; item = 0; front = 0; limited = bit l }
-parts_of (Push i item e) = record { kind = 4; at = i; item = item; front = front_of e; limited = 0 }
-parts_of (Pop i e l) = record { kind = 5; at = i; item = 0; front = front_of e; limited = bit l }
-
-abbrev pub same_parts : Parts → Parts → Bool
-same_parts a b = eqb a.kind b.kind && eqb a.at b.at && eqb a.item b.item && eqb a.front b.front && eqb a.limited b.limited
+abbrev pub same_end : End → End → Bool
+same_end Front Front = true
+same_end Back Back = true
+same_end _ _ = false
 
 abbrev pub same_wait : Wait → Wait → Bool
-same_wait a b = same_parts (parts_of a) (parts_of b)
+same_wait Nothing Nothing = true
+same_wait (Sleep l) (Sleep m) = beq l m
+same_wait (Flag i l) (Flag j m) = eqb i j && beq l m
+same_wait (Mutex i l) (Mutex j m) = eqb i j && beq l m
+same_wait (Push i x e) (Push j y f) = eqb i j && eqb x y && same_end e f
+same_wait (Pop i e l) (Pop j f m) = eqb i j && same_end e f && beq l m
+same_wait _ _ = false

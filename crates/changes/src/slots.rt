@@ -1,118 +1,105 @@
 // The tables of the record, slot by slot.
-ghost use Rattle.std.specs.Prelude.{◌≡◌, ◌+◌, ◌≤◌, ◌<◌, length};
-ghost use Rattle.text.specs.Put.{Put};
-ghost use Rattle.changes.specs.Changes.{process_change, flag_change, mutex_change, channel_change, process_changes, flag_changes, mutex_changes, channel_changes};
+ghost use Rattle.std.specs.Prelude.{◌≡◌, ℕ, List, ◌++◌, ◌+◌, ◌*◌, ◌≤◌, ◌<◌, length};
+ghost use Rattle.record.specs.Record.{no_process, no_flag, no_mutex, no_channel};
+ghost use Rattle.changes.specs.Changes.{process_change, flag_change, mutex_change, channel_change, slots};
 
-use crate::{fields, values};
-use record::{Flag, Kernel, Mutex, Process};
+use crate::fields;
+use record::{Flag, Mutex, Process};
 use ring::Channel;
+use text::output::Out;
 
-fn put_process(out: &mut [u8], at: usize, p: u32, a: Process, b: Process) -> usize
-    requires { (p < 1000) × (at + 65 ≤ length out.old) }
-    ensures { Put out.old at (process_change p a b) result out.new × (result ≤ at + 65) }
-{
-    let was = a.wait;
-    let is = b.wait;
-    let counted = fields::put_slot_number(
-        out,
-        at,
-        b"counter",
-        p,
-        a.counter as u32,
-        b.counter as u32,
-    );
-    fields::put_slot_wait(out, counted, p, was, is)
+// A slot of a table: `change` is what is printed of slot i, at most `most` bytes, and `none` is what an empty slot holds.
+pub trait Slot<const N: usize> {
+    ghost change: { ℕ → Self → Self → List ℕ };
+
+    ghost most: { ℕ };
+
+    ghost none: { Self };
+
+    fn put(out: &mut Out<N>, i: u32, old: &Self, new: &Self)
+        requires few { i < 1000 }
+        requires room { length out.old + most ≤ N }
+        ensures put { out.new ≡ out.old ++ change i old.now new.now }
+        ensures most { length out.new ≤ length out.old + most };
 }
 
-fn put_flag(out: &mut [u8], at: usize, i: u32, a: Flag, b: Flag) -> usize
-    requires { (i < 1000) × (at + 41 ≤ length out.old) }
-    ensures { Put out.old at (flag_change i a b) result out.new × (result ≤ at + 41) }
-{
-    let was = values::bit(a.on);
-    let is = values::bit(b.on);
-    let switched = fields::put_slot_number(out, at, b"on", i, was, is);
-    fields::put_slot_number(out, switched, b"waiters", i, a.waiters, b.waiters)
-}
+impl<const N: usize> Slot<N> for Process {
+    ghost change = { process_change };
 
-fn put_mutex(out: &mut [u8], at: usize, i: u32, a: Mutex, b: Mutex) -> usize
-    requires { (i < 1000) × (at + 44 ≤ length out.old) }
-    ensures { Put out.old at (mutex_change i a b) result out.new × (result ≤ at + 44) }
-{
-    let was = a.owner;
-    let is = b.owner;
-    let owned = fields::put_slot_owner(out, at, i, was, is);
-    fields::put_slot_number(out, owned, b"lockers", i, a.waiters, b.waiters)
-}
+    ghost most = { 65 };
 
-fn put_channel(out: &mut [u8], at: usize, i: u32, a: Channel, b: Channel) -> usize
-    requires { (i < 1000) × (at + 112 ≤ length out.old) }
-    ensures { Put out.old at (channel_change i a b) result out.new × (result ≤ at + 112) }
-{
-    let capacity = fields::put_slot_number(out, at, b"capacity", i, a.capacity, b.capacity);
-    let first = fields::put_slot_number(out, capacity, b"first", i, a.first, b.first);
-    let count = fields::put_slot_number(out, first, b"count", i, a.count, b.count);
-    let readers = fields::put_slot_number(out, count, b"readers", i, a.readers, b.readers);
-    fields::put_slot_number(out, readers, b"writers", i, a.writers, b.writers)
-}
+    ghost none = { no_process };
 
-// ---- the tables
-
-pub fn put_processes(out: &mut [u8], at: usize, a: [Process; 32], b: [Process; 32]) -> usize
-    requires { at + 2080 ≤ length out.old }
-    ensures { Put out.old at (process_changes a b 32) result out.new × (result ≤ at + 2080) }
-{
-    let mut place = at;
-    let n = Kernel::PROCESSES;
-    for p in 0..n {
-        let slot = p as usize;
-        let was = a[slot];
-        let is = b[slot];
-        place = put_process(out, place, p, was, is);
+    #[tactic(auto, unfolding(crate::specs::Changes::process_change))]
+    fn put(out: &mut Out<N>, i: u32, old: &Process, new: &Process) {
+        fields::put_change(
+            out,
+            b"counter",
+            Some(i),
+            u32::from(old.counter),
+            u32::from(new.counter),
+        );
+        fields::put_change(out, b"wait", Some(i), old.wait, new.wait);
     }
-    place
 }
 
-pub fn put_flags(out: &mut [u8], at: usize, a: [Flag; 8], b: [Flag; 8]) -> usize
-    requires { at + 328 ≤ length out.old }
-    ensures { Put out.old at (flag_changes a b 8) result out.new × (result ≤ at + 328) }
-{
-    let mut place = at;
-    let n = Kernel::FLAGS;
-    for i in 0..n {
-        let slot = i as usize;
-        let was = a[slot];
-        let is = b[slot];
-        place = put_flag(out, place, i, was, is);
+impl<const N: usize> Slot<N> for Flag {
+    ghost change = { flag_change };
+
+    ghost most = { 41 };
+
+    ghost none = { no_flag };
+
+    #[tactic(auto, unfolding(crate::specs::Changes::flag_change))]
+    fn put(out: &mut Out<N>, i: u32, old: &Flag, new: &Flag) {
+        fields::put_change(out, b"on", Some(i), u32::from(old.on), u32::from(new.on));
+        fields::put_change(out, b"waiters", Some(i), old.waiters, new.waiters);
     }
-    place
 }
 
-pub fn put_mutexes(out: &mut [u8], at: usize, a: [Mutex; 8], b: [Mutex; 8]) -> usize
-    requires { at + 352 ≤ length out.old }
-    ensures { Put out.old at (mutex_changes a b 8) result out.new × (result ≤ at + 352) }
-{
-    let mut place = at;
-    let n = Kernel::MUTEXES;
-    for i in 0..n {
-        let slot = i as usize;
-        let was = a[slot];
-        let is = b[slot];
-        place = put_mutex(out, place, i, was, is);
+impl<const N: usize> Slot<N> for Mutex {
+    ghost change = { mutex_change };
+
+    ghost most = { 44 };
+
+    ghost none = { no_mutex };
+
+    #[tactic(auto, unfolding(crate::specs::Changes::mutex_change))]
+    fn put(out: &mut Out<N>, i: u32, old: &Mutex, new: &Mutex) {
+        fields::put_change(out, b"owner", Some(i), old.owner, new.owner);
+        fields::put_change(out, b"lockers", Some(i), old.waiters, new.waiters);
     }
-    place
 }
 
-pub fn put_channels(out: &mut [u8], at: usize, a: [Channel; 4], b: [Channel; 4]) -> usize
-    requires { at + 448 ≤ length out.old }
-    ensures { Put out.old at (channel_changes a b 4) result out.new × (result ≤ at + 448) }
-{
-    let mut place = at;
-    let n = Kernel::CHANNELS;
-    for i in 0..n {
-        let slot = i as usize;
-        let was = a[slot];
-        let is = b[slot];
-        place = put_channel(out, place, i, was, is);
+impl<const N: usize> Slot<N> for Channel {
+    ghost change = { channel_change };
+
+    ghost most = { 112 };
+
+    ghost none = { no_channel };
+
+    #[tactic(auto, unfolding(crate::specs::Changes::channel_change))]
+    fn put(out: &mut Out<N>, i: u32, old: &Channel, new: &Channel) {
+        fields::put_change(out, b"capacity", Some(i), old.capacity, new.capacity);
+        fields::put_change(out, b"first", Some(i), old.first, new.first);
+        fields::put_change(out, b"count", Some(i), old.count, new.count);
+        fields::put_change(out, b"readers", Some(i), old.readers, new.readers);
+        fields::put_change(out, b"writers", Some(i), old.writers, new.writers);
     }
-    place
+}
+
+#[tactic(auto, unfolding(crate::specs::Changes::below))]
+pub fn put_slots<T: Slot<N>, const LEN: usize, const N: usize>(
+    out: &mut Out<N>,
+    old: &[T; LEN],
+    new: &[T; LEN],
+)
+    requires few { LEN ≤ 1000 }
+    requires room { length out.old + LEN * T.most ≤ N }
+    ensures put { out.new ≡ out.old ++ slots T.change T.none old.now new.now LEN }
+    ensures most { length out.new ≤ length out.old + LEN * T.most }
+{
+    for (i, (was, is)) in old.iter().zip(new).enumerate() {
+        T::put(out, i as u32, was, is);
+    }
 }

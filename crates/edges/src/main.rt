@@ -1,13 +1,14 @@
 // The edges of the leaf crates, run and compared with what document 01 says of them (expected output: `stdout`, written from the document).
 #![tactic(auto)]
 
+mod base;
 mod channels;
+mod limits;
+mod owners;
 mod processes;
 mod say;
 mod setups;
-mod soundness1;
-mod soundness2;
-mod soundness3;
+mod waits;
 
 use std::io;
 
@@ -15,7 +16,7 @@ fn main(rt: HostRuntime) -> io::Result<()> {
     processes::run(&rt)?;
     channels::run(&rt)?;
     setups::run(&rt)?;
-    soundness1::run(&rt)?;
-    soundness2::run(&rt)?;
-    soundness3::run(&rt)
+    limits::run(&rt)?;
+    waits::run(&rt)?;
+    owners::run(&rt)
 }

@@ -1,58 +1,72 @@
 // Tags, numbers, lowest, bounds and waking at their edges.
 use crate::say;
-use maps::{Number, Tag};
+use maps::{Number, Tag, Wake};
 use std::io;
 
 fn tags(rt: &impl Print) -> io::Result<()> {
-    say::word(rt, "tag of 0", maps::tag_of(Number(0)).0)?;
-    say::word(rt, "tag of 31", maps::tag_of(Number(31)).0)?;
-    say::word(rt, "number of tag 1", maps::number_of(Tag(1)).0)?;
-    say::word(
-        rt,
-        "number of tag 2147483648",
-        maps::number_of(Tag(2147483648)).0,
-    )?;
-    say::word(rt, "number of tag 0", maps::number_of(Tag(0)).0)?;
-    say::word(rt, "number of tag 3", maps::number_of(Tag(3)).0)
+    for p in [0, 31] {
+        println!(rt; "tag of {p}: {}", maps::tag_of(Number(p)).0)?;
+    }
+    for t in [1, 2147483648, 0, 3] {
+        println!(rt; "number of tag {t}: {}", maps::number_of(Tag(t)).0)?;
+    }
+    Ok(())
 }
 
-fn maps_of_n(rt: &impl Print) -> io::Result<()> {
-    say::word(rt, "lowest of 0", maps::lowest_of(0))?;
-    say::word(rt, "lowest of 12", maps::lowest_of(12))?;
-    say::word(rt, "lowest of 2147483648", maps::lowest_of(2147483648))?;
-    say::word(rt, "all of 2", maps::every(2))?;
-    say::word(rt, "all of 32", maps::every(32))?;
-    say::test(rt, "3 within 2", maps::within(3, 2))?;
-    say::test(rt, "4 within 2", maps::within(4, 2))?;
-    say::test(rt, "4294967295 within 32", maps::within(4294967295, 32))?;
-    say::test(rt, "31 in 2147483648", maps::holds(2147483648, Number(31)))?;
-    say::test(rt, "30 in 2147483648", maps::holds(2147483648, Number(30)))?;
-    say::word(rt, "31 entered in 1", maps::entered(1, Number(31)))?;
-    say::word(rt, "0 left from 3", maps::left(3, Number(0)))?;
-    say::word(rt, "0 left from 2", maps::left(2, Number(0)))
+fn lowest(rt: &impl Print) -> io::Result<()> {
+    for map in [0, 12, 2147483648] {
+        println!(rt; "lowest of {map}: {}", maps::lowest_of(map))?;
+    }
+    Ok(())
 }
 
-fn woken(rt: &impl Print, label: &str, w: maps::Wake) -> io::Result<()> {
-    say::word(rt, label, w.ready)?;
-    say::word(rt, "  the map keeps", w.map)?;
-    say::word(rt, "  woken", w.woken)
+fn bounds(rt: &impl Print) -> io::Result<()> {
+    for n in [2, 32] {
+        println!(rt; "all of {n}: {}", maps::every(n))?;
+    }
+    for (map, n) in [(3, 2), (4, 2), (4294967295, 32)] {
+        println!(rt; "{map} within {n}: {}", u32::from(maps::within(map, n)))?;
+    }
+    Ok(())
+}
+
+fn members(rt: &impl Print) -> io::Result<()> {
+    for p in [31, 30] {
+        println!(rt;
+            "{p} in 2147483648: {}",
+            u32::from(maps::holds(2147483648, Number(p)))
+        )?;
+    }
+    say::line(rt, "31 entered in 1", maps::entered(1, Number(31)))?;
+    for map in [3, 2] {
+        println!(rt; "0 left from {map}: {}", maps::left(map, Number(0)))?;
+    }
+    Ok(())
+}
+
+// The same for both ways to wake.
+fn woken<W: Fn(u32, u32) -> Wake>(
+    rt: &impl Print,
+    name: &str,
+    wake: W,
+    rows: [(u32, u32); 3],
+) -> io::Result<()>
+    requires { W.IsAlwaysCallable wake }
+{
+    for (map, ready) in rows {
+        let w = wake(map, ready);
+        println!(rt; "wake {name} of {map}, ready {ready}: ready: {}", w.ready)?;
+        say::line(rt, "  the map keeps", w.map)?;
+        say::line(rt, "  woken", w.woken)?;
+    }
+    Ok(())
 }
 
 pub fn run(rt: &impl Print) -> io::Result<()> {
     tags(rt)?;
-    maps_of_n(rt)?;
-    woken(rt, "wake all of 7, ready 5: ready", maps::wake_all(7, 5))?;
-    woken(rt, "wake all of 5, ready 5: ready", maps::wake_all(5, 5))?;
-    woken(
-        rt,
-        "wake all of 4294967295, ready 0: ready",
-        maps::wake_all(4294967295, 0),
-    )?;
-    woken(rt, "wake one of 7, ready 1: ready", maps::wake_one(7, 1))?;
-    woken(rt, "wake one of 5, ready 5: ready", maps::wake_one(5, 5))?;
-    woken(
-        rt,
-        "wake one of 2147483648, ready 1: ready",
-        maps::wake_one(2147483648, 1),
-    )
+    lowest(rt)?;
+    bounds(rt)?;
+    members(rt)?;
+    woken(rt, "all", maps::wake_all, [(7, 5), (5, 5), (4294967295, 0)])?;
+    woken(rt, "one", maps::wake_one, [(7, 1), (5, 5), (2147483648, 1)])
 }

@@ -1,24 +1,13 @@
-// Lines of output: a label and a number.
+// Lines of output: a label and a value.
 use record::Kernel;
+use std::fmt::Display;
 use std::io;
 
-pub fn line(rt: &impl Print, label: &str, value: u64) -> io::Result<()> {
+pub fn line(rt: &impl Print, label: &str, value: impl Display + Copy) -> io::Result<()> {
     println!(rt; "{label}: {value}")
-}
-
-pub fn word(rt: &impl Print, label: &str, value: u32) -> io::Result<()> {
-    line(rt, label, value as u64)
-}
-
-pub fn test(rt: &impl Print, label: &str, value: bool) -> io::Result<()> {
-    if value {
-        line(rt, label, 1)
-    } else {
-        line(rt, label, 0)
-    }
 }
 
 // 1 where the record is sound, 0 where it isn't.
 pub fn verdict(rt: &impl Print, label: &str, k: Kernel) -> io::Result<()> {
-    test(rt, label, record::soundness::is_sound(k))
+    line(rt, label, u32::from(record::soundness::is_sound(k)))
 }

@@ -9,113 +9,49 @@ ghost use Rattle.rules.specs.Step.{step};
 ghost use Rattle.rules.specs.Promise.{Alone, WithRoom, WithBoth};
 ghost use Rattle.carry.specs.Targets.{lent};
 
-use parts::Parts;
 use record::Kernel;
 use ring::End;
-use rules::{Call, Interrupt, Name, Outcome, Reading, Request};
+use rules::{Answer, Call, Interrupt, Name, Outcome, Reading, Request};
 
 // ---- any call
 
-// The record is copied to one local, and that is stored to where the call's parts stand. What the call does is worked out over the parts. A write from
-// interrupt is lent the first block, every other call the second.
-fn stepped(k: Kernel, room: &mut [u32], from: &[u32], to: &mut [u32], c: Call) -> Outcome
+// The record is copied to one local, which a call that is accepted changes in place. A write from interrupt is lent the first block, every other call the
+// second.
+#[tactic(auto, unfolding(rules::specs::Step::step))]
+fn stepped(mut k: Kernel, room: &mut [u32], from: &[u32], to: &mut [u32], c: Call) -> Outcome
     ensures { step k room.old (lent c from.now to.old) c ≡ record { answer = said result.answer; kernel = result.kernel; room = room.new; block = lent c from.now to.new } }
 {
-    let mut next = k;
-    let sound = record::soundness::is_sound(next);
-    let me = parts::spots::below(Kernel::PROCESSES, next.running.0) as usize;
-    let own = next.process[me];
-    let wait = own.wait;
-    let s = carry::spots::spot_of(next.running, wait, c);
-    let p = s.process as usize;
-    let f = s.flag as usize;
-    let m = s.mutex as usize;
-    let i = s.channel as usize;
-    let setup = next.setup;
-    let mutexes = next.mutex;
-    let channels = next.channel;
-    let running = next.running;
-    let follows = next.next;
-    let row = next.process[p];
-    let flag = next.flag[f];
-    let mutex = next.mutex[m];
-    let channel = next.channel[i];
-    let x = Parts {
-        mode: setup.mode,
-        depth: next.depth,
-        running,
-        next: follows,
-        ready: next.ready,
-        row,
-        flag,
-        mutex,
-        channel,
+    let answer = match judge::verdict(&k, room.len(), c) {
+        Ok(()) => carry::carry_out(&mut k, room, from, to, c),
+        Err(r) => Answer::Refused(r),
     };
-    let d = carry::settle(
-        sound, setup, next.ticks, x, wait, mutexes, channels, room, from, to, c,
-    );
-    let answer = d.answer;
-    let y = d.parts;
-    let new_running = y.running;
-    let new_next = y.next;
-    let new_row = y.row;
-    let new_flag = y.flag;
-    let new_mutex = y.mutex;
-    let new_channel = y.channel;
-    next.depth = y.depth;
-    next.running = new_running;
-    next.next = new_next;
-    next.ready = y.ready;
-    next.process[p] = new_row;
-    next.flag[f] = new_flag;
-    next.mutex[m] = new_mutex;
-    next.channel[i] = new_channel;
-    let counts = carry::ticks::counts(c, answer);
-    next.ticks = carry::ticks::ticks_after(counts, next.ticks);
-    let users = carry::ticks::falling(counts, setup.processes);
-    for q in 0..users {
-        let at = q as usize;
-        let it = next.process[at];
-        let old = it.counter;
-        next.process[at].counter = carry::ticks::lowered(old);
-        next.ready = next.ready | carry::ticks::due(old, q);
-    }
-    Outcome {
-        answer,
-        kernel: next,
-    }
+    Outcome { answer, kernel: k }
 }
 
 pub fn call(k: Kernel, room: &mut [u32], block: &mut [u32], c: Call) -> Outcome
     ensures { WithBoth k c room.old block.old result room.new block.new }
 {
     if carry::spots::is_write(c) {
-        let mut to = [0u32; 0];
-        return stepped(k, room, &*block, &mut to, c);
+        return stepped(k, room, block, &mut [], c);
     }
-    let from = [0u32; 0];
-    stepped(k, room, &from, block, c)
+    stepped(k, room, &[], block, c)
 }
 
 // ---- calls that are lent less
+// The functions below differ in their call alone, and `call` takes any: they stay as the calls that document 01, README and docs/CONTRACTS.md name.
 
 fn alone(k: Kernel, c: Call) -> Outcome
     requires { needs_room c ≡ false }
     ensures { Alone k c result }
 {
-    let mut room = [0u32; 0];
-    let from = [0u32; 0];
-    let mut to = [0u32; 0];
-    stepped(k, &mut room, &from, &mut to, c)
+    stepped(k, &mut [], &[], &mut [], c)
 }
 
 fn with_room(k: Kernel, room: &mut [u32], c: Call) -> Outcome
     requires { is_interrupt c ≡ false }
     ensures { WithRoom k c room.old result room.new }
 {
-    let from = [0u32; 0];
-    let mut to = [0u32; 0];
-    stepped(k, room, &from, &mut to, c)
+    stepped(k, room, &[], &mut [], c)
 }
 
 // ---- anywhere
@@ -298,12 +234,11 @@ pub fn unlock_interrupt(k: Kernel, mutex: u32) -> Outcome
 pub fn write_interrupt(k: Kernel, room: &mut [u32], channel: u32, block: &[u32]) -> Outcome
     ensures { WithBoth k (Call.Interrupt (Interrupt.Write channel)) room.old block.now result room.new block.now }
 {
-    let mut to = [0u32; 0];
     stepped(
         k,
         room,
         block,
-        &mut to,
+        &mut [],
         Call::Interrupt(Interrupt::Write { channel }),
     )
 }
@@ -311,11 +246,10 @@ pub fn write_interrupt(k: Kernel, room: &mut [u32], channel: u32, block: &[u32])
 pub fn read_interrupt(k: Kernel, room: &mut [u32], channel: u32, block: &mut [u32]) -> Outcome
     ensures { WithBoth k (Call.Interrupt (Interrupt.Read channel)) room.old block.old result room.new block.new }
 {
-    let from = [0u32; 0];
     stepped(
         k,
         room,
-        &from,
+        &[],
         block,
         Call::Interrupt(Interrupt::Read { channel }),
     )

@@ -1,7 +1,7 @@
 -- Maps of n processes: 'no bit at n or above' is `m < 2 ^ n`. What keeps within n, and what that says of the members. Assumes nothing.
 use Rattle.std.proofs.Common.{◌≡◌, ℕ, zero, suc, ◌/◌, ◌%◌, ◌^◌, ◌<◌, ◌≤◌, Bool, true, false, ◌&&◌, ltb, sym, refl, ap, ◌∙◌, true≢false, suc-le-suc, zero-le, le_refl, le_of_suc-le-suc, not-suc-le-zero, lt_of_le_of_lt, lt_of_not-le, arith, pow_pos, ltb-false, ltb-true, le-ltb, lt-ltb}
-use lib.Arith.{bin_ind, lt-one}
-use lib.Bits.{bit_or, or_lt, or_add_and, and_le_l, and_le_r}
+use Rattle.std.proofs.Math.Arith.{bin_ind, lt-one}
+use Rattle.std.specs.Int.Bits.{bit_or, or_lt, or_add_and, and_le_l, and_le_r}
 use Rattle.maps.specs.Maps.{has, unless, minus, everyone}
 use Rattle.maps.proofs.Members.{has-zero, minus-step, ext, same, lt-pow}
 

@@ -1,10 +1,10 @@
 -- What the machine's words do: `a & !b` is minus, and `m & -m` is the lowest member alone. Assumes nothing.
 use Rattle.std.proofs.Common.{◌≡◌, ℕ, zero, suc, ◌+◌, ◌-◌, ◌*◌, ◌/◌, ◌%◌, ◌^◌, ◌<◌, ◌≤◌, min, Bool, false, cond, not, ◌&&◌, eqb, ◌⊎◌, sym, refl, ap, ◌∙◌, ap₂, inl, inr, lt_of_lt_of_le, eq-zero-or-pos, pow-suc, arith, pow_pos, pow_mono, ne_eqb}
-use mathlib.Core.Bool.{beq}
-use lib.Arith.{lt-one}
-use lib.Bits.{bit_and, and_step}
-use lib.Count.{count_trailing_zeros, under}
-use lib.Pow.{pow-lt}
+use Rattle.std.proofs.Math.Bool.{beq}
+use Rattle.std.proofs.Math.Arith.{lt-one}
+use Rattle.std.specs.Int.Bits.{bit_and, and_step}
+use Rattle.std.specs.Int.Count.{count_trailing_zeros, under}
+use Rattle.std.proofs.Math.Pow.{pow-lt}
 use Rattle.maps.specs.Maps.{has, unless, minus, lowest, lowest_bit}
 use Rattle.maps.proofs.Truth.{taut, equal}
 use Rattle.maps.proofs.Members.{has-minus, has-zero, has-tag, has-through, minus-step, same}

@@ -1,8 +1,8 @@
 -- The lowest-numbered process of a map: it is a member, nothing below it is, and nobody else is so. Stated over the number k of digits that are
 -- looked at; `lowest` looks at 32. Assumes nothing.
 use Rattle.std.proofs.Common.{◌≡◌, ℕ, zero, suc, ◌/◌, ◌%◌, ◌^◌, ◌<◌, ◌≤◌, true, false, sym, refl, ap, ◌∙◌, true≢false, suc-le-suc, zero-le, lt_of_lt_of_le, le_of_suc-le-suc, not-suc-le-zero, lt_of_not-le, arith, pow_mono, ne_eqb}
-use mathlib.Core.Bool.{false≢true}
-use lib.Count.{count_trailing_zeros, under}
+use Rattle.std.proofs.Math.Bool.{false≢true}
+use Rattle.std.specs.Int.Count.{count_trailing_zeros, under}
 use Rattle.maps.specs.Maps.{some, has, lowest}
 use Rattle.maps.proofs.Members.{has-tag, eqb_same}
 use Rattle.maps.proofs.Bounds.{member-lt, member-pos}

@@ -1,12 +1,12 @@
 -- Who is in a map: membership of and, or, minus, of a tag and of everyone; two maps with the same members are equal.
 -- Each operation works digit by digit, and one law covers them all. Assumes nothing.
 use Rattle.std.proofs.Common.{◌≡◌, ℕ, zero, suc, ◌+◌, ◌-◌, ◌*◌, ◌/◌, ◌%◌, ◌^◌, ◌<◌, min, max, Bool, true, false, cond, not, ◌&&◌, ◌||◌, eqb, ltb, sym, refl, ap, ◌∙◌, true≢false, suc-le-suc, zero-le, arith, pow_pos, pow_mono, ltb-false, ltb-true, le-ltb, lt-ltb, eq-eqb, eqb-true}
-use mathlib.Core.Bool.{false≢true, and-true, and-false, or-true, or-false, beq}
-use native.Mathlib.Nat.{zero-min, min-zero, suc-min-suc, zero-max, max-zero, suc-max-suc}
-use lib.Dec.{eqb-zero-suc, eqb-suc-zero, eqb-suc-suc, leb-zero, leb-suc-zero, leb-suc-suc}
-use lib.Arith.{digits_div, digits_mod}
-use lib.Bits.{bitwise_step, bit_and, bit_or, and_step, or_step}
-use borrow.Author.Tests.{eqb-false}
+use Rattle.std.proofs.Math.Bool.{false≢true, and-true, and-false, or-true, or-false, beq}
+use Rattle.std.proofs.Math.Nat.{zero-min, min-zero, suc-min-suc, zero-max, max-zero, suc-max-suc}
+use Rattle.std.proofs.Math.Dec.{eqb-zero-suc, eqb-suc-zero, eqb-suc-suc, leb-zero, leb-suc-zero, leb-suc-suc}
+use Rattle.std.proofs.Math.Arith.{digits_div, digits_mod}
+use Rattle.std.specs.Int.Bits.{bitwise_step, bit_and, bit_or, and_step, or_step}
+use Rattle.std.proofs.lemmas.Bool.{eqb-false}
 use Rattle.maps.proofs.Truth.{taut, equal}
 use Rattle.maps.specs.Maps.{some, has, unless, minus, everyone, map_of}
 

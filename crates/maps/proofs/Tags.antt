@@ -1,7 +1,7 @@
 -- Tags: a test by a tag is membership by its number; a tag's number, and back. Assumes nothing.
 use Rattle.std.proofs.Common.{◌≡◌, ℕ, ◌^◌, ◌<◌, Bool, true, false, cond, not, ◌&&◌, eqb, ◌⊎◌, sym, refl, ap, ◌∙◌, inl, inr, eq-zero-or-pos, arith, pow_pos, eq-eqb, ne_eqb, eqb-true}
-use lib.Bits.{bit_and}
-use lib.Count.{trailing_of_zero}
+use Rattle.std.specs.Int.Bits.{bit_and}
+use Rattle.std.specs.Int.Count.{trailing_of_zero}
 use Rattle.maps.specs.Maps.{has, meets, lowest, lowest_bit, number_of}
 use Rattle.maps.proofs.Members.{has-and, has-zero, has-tag, has-through, same}
 use Rattle.maps.proofs.Lowest.{lowest-tag}

@@ -1,6 +1,6 @@
 -- Laws of truth values: a law of n of them is proved by computing it at every value, `taut n law refl`. Assumes nothing.
 use Rattle.std.proofs.Common.{◌≡◌, ℕ, zero, suc, Bool, true, false, not, ◌&&◌, ◌||◌, sym, refl, ap, ◌∙◌}
-use mathlib.Core.Bool.{beq, false≢true}
+use Rattle.std.proofs.Math.Bool.{beq, false≢true}
 
 abbrev pub Law : ℕ → Type 0
 Law zero = Bool

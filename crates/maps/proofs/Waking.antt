@@ -1,7 +1,7 @@
 -- Waking, process by process: who is ready then, whom the map keeps, who was woken; and within n. Assumes nothing.
 use Rattle.std.proofs.Common.{◌≡◌, ℕ, ◌^◌, ◌<◌, ◌≤◌, Bool, true, false, not, ◌&&◌, ◌||◌, eqb, sym, refl, ap, ◌∙◌}
-use mathlib.Core.Bool.{beq}
-use lib.Bits.{bit_and, bit_or, or_lt}
+use Rattle.std.proofs.Math.Bool.{beq}
+use Rattle.std.specs.Int.Bits.{bit_and, bit_or, or_lt}
 use Rattle.maps.specs.Maps.{has, lowest, unready, woke, wake_all, wake_one}
 use Rattle.maps.proofs.Truth.{taut, equal}
 use Rattle.maps.proofs.Members.{has-or, has-and, has-minus, has-zero, same}

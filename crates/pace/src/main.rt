@@ -1,118 +1,135 @@
-// How long a call takes: a million turns of one kind of call, by the letter that is given. `tests/pace` runs it, takes the time and prints nanoseconds.
+// How long a call takes: a million turns of one kind of call, by the letter that is given. `tests/pace` runs it and prints the time in nanoseconds.
 #![tactic(auto)]
 
 use maps::Number;
 use record::{Kernel, Process, Setup, Wait};
 use ring::End;
-use rules::Outcome;
 use std::io;
 use std::rt::Env;
 
-fn after(o: Outcome) -> Kernel {
-    o.kernel
+// What one turn calls.
+#[derive(Clone, Copy)]
+enum Kind {
+    Reading,
+    EnterExit,
+    WaitSignalFinish,
+    LockUnlock,
+    PushPop,
+    BlockOf64,
+    SignalTo31,
+    TickOf31Sleepers,
+    TickOf2,
+    RefusedTick,
+}
+
+impl From<u8> for Kind {
+    fn from(letter: u8) -> Kind {
+        match letter {
+            b'r' => Kind::Reading,
+            b'e' => Kind::EnterExit,
+            b'w' => Kind::WaitSignalFinish,
+            b'l' => Kind::LockUnlock,
+            b'p' => Kind::PushPop,
+            b'b' => Kind::BlockOf64,
+            b's' => Kind::SignalTo31,
+            b't' => Kind::TickOf31Sleepers,
+            b'2' => Kind::TickOf2,
+            // Outside an interrupt.
+            _ => Kind::RefusedTick,
+        }
+    }
 }
 
 fn fresh(processes: u32) -> Kernel {
-    let s = Setup {
-        mode: 0,
+    let setup = Setup {
+        mode: Kernel::DIRECT,
         processes,
         flags: 8,
         mutexes: 8,
         channels: 4,
     };
-    let f = Kernel::fresh(s, [64, 64, 64, 64]);
-    f.kernel
+    Kernel::fresh(setup, [64; 4]).kernel
 }
 
 // All 31 user processes wait, at flag 0 or asleep, inside an interrupt.
 fn all_waiting(wait: Wait, waiters: u32) -> Kernel {
     let mut k = fresh(32);
+    let idle = k.process[31];
     k.process = [Process {
         counter: 65535,
         wait,
     }; 32];
-    k.process[31] = Process {
-        counter: 0,
-        wait: Wait::Nothing,
-    };
+    k.process[31] = idle;
     k.flag[0].waiters = waiters;
-    let idle = Number(31);
-    k.ready = 2147483648;
-    k.running = idle;
-    k.next = idle;
-    k.depth = 1;
+    Kernel {
+        ready: 2147483648,
+        running: Number(31),
+        next: Number(31),
+        depth: 1,
+        ..k
+    }
+}
+
+fn turns<T: FnMut(Kernel) -> Kernel>(first: Kernel, mut turn: T) -> Kernel
+    requires { T.IsAlwaysCallable turn }
+{
+    let mut k = first;
+    for _ in 0..1000000 {
+        k = turn(k);
+    }
     k
 }
 
-fn prepared(kind: u8) -> Kernel {
-    if kind == b's' {
-        return all_waiting(
-            Wait::Flag {
-                at: 0,
-                limited: true,
-            },
-            2147483647,
-        );
-    }
-    if kind == b't' {
-        return all_waiting(Wait::Sleep { limited: true }, 0);
-    }
-    if kind == b'2' {
-        return after(kernel::enter(fresh(2)));
-    }
-    if kind == b'b' {
-        return after(kernel::enter(fresh(32)));
-    }
-    fresh(32)
-}
-
-// One turn: r a reading; e enter and exit; w wait, signal and finish; l lock and unlock; p push and pop; b a block of 64 written and read; s a signal with
-// 31 waiters; t and 2 a tick at 32 and at 2 processes.
-fn turn(kind: u8, k: Kernel, room: &mut [u32], block: &mut [u32]) -> Kernel {
-    match kind {
-        b'r' => after(kernel::ready_map(k)),
-        b'e' => after(kernel::exit(after(kernel::enter(k)))),
-        b'w' => {
-            let waits = after(kernel::wait(k, 0, 0));
-            let signals = after(kernel::signal(waits, 0));
-            after(kernel::finish_wait(signals, room))
-        }
-        b'l' => after(kernel::unlock(after(kernel::lock(k, 0, 0)), 0)),
-        b'p' => {
-            let pushed = after(kernel::push(k, room, 0, 7, End::Back));
-            after(kernel::pop(pushed, room, 0, End::Front, 0))
-        }
-        b'b' => {
-            let written = after(kernel::write_interrupt(k, room, 3, &*block));
-            after(kernel::read_interrupt(written, room, 3, block))
-        }
-        b's' => {
-            let woken = after(kernel::signal_interrupt(k, 0));
-            let mut same = k;
-            same.ticks = woken.ready;
-            same
-        }
-        _ => after(kernel::tick(k)),
-    }
-}
-
-fn run(kind: u8) -> Kernel {
+// The record after all turns.
+fn run(kind: Kind) -> Kernel {
     let mut room = [0u32; 256];
     let mut block = [5u32; 64];
-    let mut k = prepared(kind);
-    let turns: u32 = 1000000;
-    for i in 0..turns {
-        k = turn(kind, k, &mut room, &mut block);
+    match kind {
+        Kind::Reading => turns(fresh(32), |k| kernel::ready_map(k).kernel),
+        Kind::EnterExit => turns(fresh(32), |k| kernel::exit(kernel::enter(k).kernel).kernel),
+        Kind::WaitSignalFinish => turns(fresh(32), |k| {
+            let waits = kernel::wait(k, 0, 0).kernel;
+            let signals = kernel::signal(waits, 0).kernel;
+            kernel::finish_wait(signals, &mut room).kernel
+        }),
+        Kind::LockUnlock => turns(fresh(32), |k| {
+            kernel::unlock(kernel::lock(k, 0, 0).kernel, 0).kernel
+        }),
+        Kind::PushPop => turns(fresh(32), |k| {
+            let pushed = kernel::push(k, &mut room, 0, 7, End::Back).kernel;
+            kernel::pop(pushed, &mut room, 0, End::Front, 0).kernel
+        }),
+        Kind::BlockOf64 => turns(kernel::enter(fresh(32)).kernel, |k| {
+            let written = kernel::write_interrupt(k, &mut room, 3, &block).kernel;
+            kernel::read_interrupt(written, &mut room, 3, &mut block).kernel
+        }),
+        // Of the signalled record only a number is kept, so that all wait again at the next turn.
+        Kind::SignalTo31 => {
+            let limited = Wait::Flag {
+                at: 0,
+                limited: true,
+            };
+            turns(
+                all_waiting(limited, 2147483647),
+                |k| Kernel {
+                    ticks: kernel::signal_interrupt(k, 0).kernel.ready,
+                    ..k
+                },
+            )
+        }
+        Kind::TickOf31Sleepers => turns(all_waiting(Wait::Sleep { limited: true }, 0), |k| {
+            kernel::tick(k).kernel
+        }),
+        Kind::TickOf2 => turns(kernel::enter(fresh(2)).kernel, |k| kernel::tick(k).kernel),
+        Kind::RefusedTick => turns(fresh(32), |k| kernel::tick(k).kernel),
     }
-    k
 }
 
 fn main(rt: HostRuntime) -> io::Result<()> {
-    let mut kind = [0u8; 1];
-    let n = rt.arg(1, &mut kind).unwrap_or(0);
-    if n != 1 {
+    let mut letter = [0u8; 1];
+    let Ok(1) = rt.arg(1, &mut letter) else {
         return println!(rt; "pace KIND: one of r e w l p b s t 2");
-    }
-    let k = run(kind[0]);
+    };
+    let k = run(Kind::from(letter[0]));
     println!(rt; "{}", k.ready)
 }

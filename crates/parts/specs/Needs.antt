@@ -1,21 +1,11 @@
--- What the calls over the parts ask: that the channel is the one that is named, and that its part lies in a room of n words. The kernel's calls have it by
--- soundness and by the refusals.
-use Rattle.std.specs.Prelude.{ℕ, ◌≡◌, List}
-use Rattle.ring.specs.declared.Channel.{Channel}
+-- What finish asks for a wait, over the parts: that the channel's part lies in the n words that are lent. The kernel's calls have it by soundness.
+use Rattle.std.specs.Prelude.{ℕ}
+use Rattle.ring.specs.Ring.{Lent}
 use Rattle.record.specs.declared.Wait.{Wait}
-use Rattle.record.specs.declared.Wait.TheVariants.{Nothing, Sleep, Flag, Mutex, Push, Pop}
-use Rattle.room.specs.Room.{channel_in, There}
+use Rattle.record.specs.declared.Wait.TheVariants.{Push, Pop}
 use Rattle.parts.specs.declared.Parts.{Parts}
 
-pub record Here (x : Parts) (cs : List Channel) (i n : ℕ) : Type 0 where
-  pub named : x.channel ≡ channel_in cs i
-  pub there : There cs i n
-
--- for a wait
-abbrev pub Usable : Parts → List Channel → ℕ → Wait → Type 0
-Usable x cs n Nothing = Unit
-Usable x cs n (Sleep l) = Unit
-Usable x cs n (Flag i l) = Unit
-Usable x cs n (Mutex i l) = Unit
-Usable x cs n (Push i item e) = Here x cs i n
-Usable x cs n (Pop i e l) = Here x cs i n
+abbrev pub Usable : Parts → ℕ → Wait → Type 0
+Usable x n (Push i item e) = Lent x.channel n
+Usable x n (Pop i e l) = Lent x.channel n
+Usable x n w = Unit

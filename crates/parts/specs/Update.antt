@@ -10,19 +10,19 @@ use Rattle.rules.specs.Update.{with_readers, with_writers}
 use Rattle.parts.specs.declared.Parts.{Parts}
 
 abbrev pub with_depth : Parts → ℕ → Parts
-with_depth x d = record { mode = x.mode; depth = d; running = x.running; next = x.next; ready = x.ready; row = x.row; flag = x.flag; mutex = x.mutex; channel = x.channel }
+with_depth x d = record x { depth = d }
 
 abbrev pub with_running : Parts → Number → Parts
-with_running x p = record { mode = x.mode; depth = x.depth; running = p; next = x.next; ready = x.ready; row = x.row; flag = x.flag; mutex = x.mutex; channel = x.channel }
+with_running x p = record x { running = p }
 
 abbrev pub with_next : Parts → Number → Parts
-with_next x p = record { mode = x.mode; depth = x.depth; running = x.running; next = p; ready = x.ready; row = x.row; flag = x.flag; mutex = x.mutex; channel = x.channel }
+with_next x p = record x { next = p }
 
 abbrev pub with_ready : Parts → ℕ → Parts
-with_ready x m = record { mode = x.mode; depth = x.depth; running = x.running; next = x.next; ready = m; row = x.row; flag = x.flag; mutex = x.mutex; channel = x.channel }
+with_ready x m = record x { ready = m }
 
 abbrev pub with_row : Parts → Process → Parts
-with_row x p = record { mode = x.mode; depth = x.depth; running = x.running; next = x.next; ready = x.ready; row = p; flag = x.flag; mutex = x.mutex; channel = x.channel }
+with_row x p = record x { row = p }
 
 -- ---- the services
 pub record Services : Type 0 where
@@ -34,7 +34,7 @@ abbrev pub services : Parts → Services
 services x = record { flag = x.flag; mutex = x.mutex; channel = x.channel }
 
 abbrev pub with_services : Parts → Services → Parts
-with_services x v = record { mode = x.mode; depth = x.depth; running = x.running; next = x.next; ready = x.ready; row = x.row; flag = v.flag; mutex = v.mutex; channel = v.channel }
+with_services x v = record x { flag = v.flag; mutex = v.mutex; channel = v.channel }
 
 abbrev pub with_flag : Parts → Flag → Parts
 with_flag x f = with_services x (record { flag = f; mutex = x.mutex; channel = x.channel })

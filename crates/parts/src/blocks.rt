@@ -1,160 +1,104 @@
-// The blocks that calls are made of: choose, opening a wait, closing it, the map at a wait's place.
-ghost use Rattle.std.specs.Prelude.{◌≡◌, cond, ◌<◌, eqb};
+// The blocks that calls are made of: choose, opening a wait, closing it, the map at a wait's place, waking.
+ghost use Rattle.std.specs.Prelude.{◌≡◌};
+ghost use Rattle.maps.specs.Maps.{wake_all};
 ghost use Rattle.record.specs.Places.{place_of};
 ghost use Rattle.parts.specs.Update.{map_at, with_map};
 ghost use Rattle.parts.specs.Blocks.{choose, opened, closed, again, left};
 ghost use Rattle.parts.specs.Effects.{ends};
 
-use crate::{Did, Parts};
+use crate::Parts;
 use maps::Number;
-use record::{Process, Wait};
+use record::{Kernel, Process, Wait};
 use rules::Answer;
 
-// Who runs once `low` is chosen.
-fn runner(mode: u32, low: Number, running: Number) -> Number
-    ensures { result ≡ cond (eqb mode 0) low running }
-{
-    if mode == 0 {
-        return low;
-    }
-    running
-}
-
-// Who is next then: `low`. Next is left alone where it is `low` already, and not where running is: a stale switch would follow.
-fn follower(x: Parts, low: Number) -> Number
-    ensures { result ≡ low }
-{
-    let next = x.next;
-    if low.0 == x.next.0 {
-        return next;
-    }
-    low
-}
-
-pub fn chosen(x: Parts) -> Parts
-    ensures { result ≡ choose x }
-{
-    let low = Number(maps::lowest_of(x.ready));
-    let runs = runner(x.mode, low, x.running);
-    let follows = follower(x, low);
-    let mut y = x;
-    y.next = follows;
-    y.running = runs;
-    y
-}
-
-// A process call's end: the answer, and choose.
-pub fn ended(a: Answer, x: Parts) -> Did
-    ensures { result ≡ ends a x }
-{
-    Did {
-        answer: a,
-        parts: chosen(x),
-    }
-}
-
-// ---- the map at a wait's place
-
-pub fn map_of(x: Parts, w: Wait) -> u32
-    ensures { result ≡ map_at x (place_of w) }
-{
-    match w {
-        Wait::Nothing => 0,
-        Wait::Sleep { limited: _ } => 0,
-        Wait::Flag { at: _, limited: _ } => x.flag.waiters,
-        Wait::Mutex { at: _, limited: _ } => x.mutex.waiters,
-        Wait::Push {
-            at: _,
-            item: _,
-            end: _,
-        } => x.channel.writers,
-        Wait::Pop {
-            at: _,
-            end: _,
-            limited: _,
-        } => x.channel.readers,
-    }
-}
-
-pub fn put_map(x: Parts, w: Wait, map: u32) -> Parts
-    ensures { result ≡ with_map x (place_of w) map }
-{
-    let mut y = x;
-    match w {
-        Wait::Nothing => y,
-        Wait::Sleep { limited: _ } => y,
-        Wait::Flag { at: _, limited: _ } => {
-            y.flag.waiters = map;
-            y
-        }
-        Wait::Mutex { at: _, limited: _ } => {
-            y.mutex.waiters = map;
-            y
-        }
-        Wait::Push {
-            at: _,
-            item: _,
-            end: _,
-        } => {
-            y.channel.writers = map;
-            y
-        }
-        Wait::Pop {
-            at: _,
-            end: _,
-            limited: _,
-        } => {
-            y.channel.readers = map;
-            y
+impl Parts {
+    // Next is `low` also where running is already: a stale switch would follow else.
+    pub fn choose(&mut self)
+        ensures { self.new ≡ choose self.old }
+    {
+        let low = Number(maps::lowest_of(self.ready));
+        self.next = low;
+        if self.setup.mode == Kernel::DIRECT {
+            self.running = low;
         }
     }
+
+    // A process call's end: choose, and the answer.
+    pub fn end(&mut self, answer: Answer) -> Answer
+        ensures { record { answer = result; parts = self.new } ≡ ends answer self.old }
+    {
+        self.choose();
+        answer
+    }
+
+    // ---- the map at a wait's place. One function that lends its `&mut` would have a clause over five arms of what becomes of the parts, which is no plainer
+
+    pub(crate) fn map_of(&self, w: Wait) -> u32
+        ensures { result ≡ map_at self.now (place_of w) }
+    {
+        match w {
+            Wait::Nothing | Wait::Sleep { .. } => 0,
+            Wait::Flag { .. } => self.flag.waiters,
+            Wait::Mutex { .. } => self.mutex.waiters,
+            Wait::Push { .. } => self.channel.writers,
+            Wait::Pop { .. } => self.channel.readers,
+        }
+    }
+
+    fn put_map(&mut self, w: Wait, map: u32)
+        ensures { self.new ≡ with_map self.old (place_of w) map }
+    {
+        match w {
+            Wait::Nothing | Wait::Sleep { .. } => {}
+            Wait::Flag { .. } => self.flag.waiters = map,
+            Wait::Mutex { .. } => self.mutex.waiters = map,
+            Wait::Push { .. } => self.channel.writers = map,
+            Wait::Pop { .. } => self.channel.readers = map,
+        }
+    }
+
+    // ---- waits
+
+    pub(crate) fn open_wait(&mut self, w: Wait, t: u16)
+        ensures { self.new ≡ opened self.old w t }
+    {
+        self.row = Process {
+            counter: t,
+            wait: w,
+        };
+        self.wait_again(w);
+    }
+
+    pub(crate) fn wait_again(&mut self, w: Wait)
+        ensures { self.new ≡ again self.old w }
+    {
+        let map = maps::with(self.map_of(w), self.caller);
+        self.put_map(w, map);
+        self.ready = maps::without(self.ready, self.caller);
+    }
+
+    pub(crate) fn leave_map(&mut self, w: Wait)
+        ensures { self.new ≡ left self.old (place_of w) }
+    {
+        let map = maps::without(self.map_of(w), self.caller);
+        self.put_map(w, map);
+    }
+
+    pub(crate) fn close(&mut self)
+        ensures { self.new ≡ closed self.old }
+    {
+        self.row = Process::default();
+    }
 }
 
-// ---- waits
+// ---- waking
 
-pub fn open_wait(x: Parts, w: Wait, t: u16) -> Parts
-    requires { x.running.0 < 32 }
-    ensures { result ≡ opened x w t }
+// All of a service's map; who were woken.
+pub(crate) fn wake_all(map: &mut u32, ready: &mut u32) -> u32
+    ensures { record { ready = ready.new; map = map.new; woken = result } ≡ wake_all map.old ready.old }
 {
-    let me = x.running;
-    let map = maps::entered(map_of(x, w), me);
-    let row = Process {
-        counter: t,
-        wait: w,
-    };
-    let mut y = put_map(x, w, map);
-    y.ready = maps::left(x.ready, me);
-    y.row = row;
-    y
-}
-
-pub fn wait_again(x: Parts, w: Wait) -> Parts
-    requires { x.running.0 < 32 }
-    ensures { result ≡ again x w }
-{
-    let me = x.running;
-    let map = maps::entered(map_of(x, w), me);
-    let mut y = put_map(x, w, map);
-    y.ready = maps::left(x.ready, me);
-    y
-}
-
-pub fn leave_map(x: Parts, w: Wait) -> Parts
-    requires { x.running.0 < 32 }
-    ensures { result ≡ left x (place_of w) }
-{
-    let map = maps::left(map_of(x, w), x.running);
-    put_map(x, w, map)
-}
-
-pub fn close(x: Parts) -> Parts
-    ensures { result ≡ closed x }
-{
-    let row = Process {
-        counter: 0,
-        wait: Wait::Nothing,
-    };
-    let mut y = x;
-    y.row = row;
-    y
+    let w = maps::wake_all(*map, *ready);
+    *map = w.map;
+    *ready = w.ready;
+    w.woken
 }

@@ -1,145 +1,99 @@
-// What the calls on channels do to the parts and the room, once they are accepted: pushes, pops, flush, and blocks from interrupt.
-ghost use Rattle.std.specs.Prelude.{◌≡◌, ◌<◌, length};
-ghost use Rattle.room.specs.Room.{There};
-ghost use Rattle.parts.specs.Needs.{Here};
-ghost use Rattle.parts.specs.Effects.{readers_woken, writers_woken, pushed, room_pushed, pushed_or, popped, word_popped, popped_or, flushed, words_written, written, room_written, words_read, read_out, block_read};
+// What the calls on channels do to the parts and to the channel's part of the room, once they are accepted: pushes, pops, flush, and blocks from interrupt.
+ghost use Rattle.std.specs.Prelude.{◌≡◌, cond, length, Some, None};
+ghost use Rattle.ring.specs.Ring.{Lent};
+ghost use Rattle.rules.specs.Effects.{has_room, has_item};
+ghost use Rattle.parts.specs.Effects.{pushed, part_pushed, pushed_or, popped, word_popped, popped_or, flushed, words_written, written, part_written, words_read, read_out, block_read};
 
-use crate::{Did, Parts, blocks};
+use crate::{Parts, blocks};
 use record::Wait;
-use ring::{Channel, End};
+use ring::End;
 use rules::Answer;
 
-// A word that was popped, and the parts then.
-#[derive(Clone, Copy)]
-pub struct Popped {
-    pub word: u32,
-    pub parts: Parts,
-}
-
-// How many words a block call moved, and the parts then.
-#[derive(Clone, Copy)]
-pub struct Worked {
-    pub words: u32,
-    pub parts: Parts,
-}
-
-// The parts with the channel anew and its readers woken.
-fn wake_readers(x: Parts, c: Channel) -> Parts
-    ensures { result ≡ readers_woken x c }
-{
-    let w = maps::wake_all(x.channel.readers, x.ready);
-    let mut new = c;
-    new.readers = w.map;
-    let mut y = x;
-    y.ready = w.ready;
-    y.channel = new;
-    y
-}
-
-fn wake_writers(x: Parts, c: Channel) -> Parts
-    ensures { result ≡ writers_woken x c }
-{
-    let w = maps::wake_all(x.channel.writers, x.ready);
-    let mut new = c;
-    new.writers = w.map;
-    let mut y = x;
-    y.ready = w.ready;
-    y.channel = new;
-    y
-}
-
-pub fn push_item(
-    x: Parts,
-    channel: [Channel; 4],
-    room: &mut [u32],
-    i: u32,
-    item: u32,
-    end: End,
-) -> Parts
-    requires { Here x channel i (length room.old) × (x.channel.count < x.channel.capacity) }
-    ensures { (result ≡ pushed x end) × (room.new ≡ room_pushed x channel room.old i end item) }
-{
-    let c = room::put_at(room, channel, i, end, item);
-    wake_readers(x, c)
-}
-
-pub fn pop_item(x: Parts, channel: [Channel; 4], room: &mut [u32], i: u32, end: End) -> Popped
-    requires { Here x channel i (length room.old) × (0 < x.channel.count) }
-    ensures { (result.word ≡ word_popped x channel room.old i end) × (result.parts ≡ popped x end) × (room.new ≡ room.old) }
-{
-    let t = room::take_at(room, channel, i, end);
-    let c = t.channel;
-    Popped {
-        word: t.word,
-        parts: wake_writers(x, c),
+// `Lent` stands in six contracts, since it is no invariant of Parts: slot 0 of a record without channels is zeros, and no part of a room holds it.
+// Parts and part stay two parameters: in one struct the contracts would say `self.old.part.now` and `self.new.part.now`, which is no plainer.
+impl Parts {
+    // Puts the item if there is room; whether there was.
+    pub(crate) fn put_item(&mut self, part: &mut [u32], item: u32, end: End) -> bool
+        requires { Lent self.old.channel (length part.old) }
+        ensures { (result ≡ has_room self.old.channel) × (self.new ≡ cond (has_room self.old.channel) (pushed self.old end) self.old) × (part.new ≡ cond (has_room self.old.channel) (part_pushed self.old part.old end item) part.old) }
+    {
+        let free = self.channel.count < self.channel.capacity;
+        if free {
+            self.channel.put(part, end, item);
+            blocks::wake_all(&mut self.channel.readers, &mut self.ready);
+        }
+        free
     }
-}
 
-pub fn push(x: Parts, channel: [Channel; 4], room: &mut [u32], i: u32, item: u32, end: End) -> Did
-    requires { (x.running.0 < 32) × Here x channel i (length room.old) }
-    ensures { pushed_or x channel room.old i item end ≡ record { answer = result.answer; parts = result.parts; room = room.new } }
-{
-    if x.channel.count < x.channel.capacity {
-        return blocks::ended(Answer::Done, push_item(x, channel, room, i, item, end));
+    // Takes an item if there is one.
+    pub(crate) fn take_item(&mut self, part: &[u32], end: End) -> Option<u32>
+        requires { Lent self.old.channel (length part.now) }
+        ensures { (result ≡ cond (has_item self.old.channel) (Some (word_popped self.old part.now end)) None) × (self.new ≡ cond (has_item self.old.channel) (popped self.old end) self.old) }
+    {
+        if self.channel.count == 0 {
+            return None;
+        }
+        let word = self.channel.take(part, end);
+        blocks::wake_all(&mut self.channel.writers, &mut self.ready);
+        Some(word)
     }
-    let w = Wait::Push { at: i, item, end };
-    blocks::ended(Answer::Waiting, blocks::open_wait(x, w, 0))
-}
 
-pub fn pop(x: Parts, channel: [Channel; 4], room: &mut [u32], i: u32, end: End, t: u16) -> Did
-    requires { (x.running.0 < 32) × Here x channel i (length room.old) }
-    ensures { (result ≡ popped_or x channel room.old i end t) × (room.new ≡ room.old) }
-{
-    if 0 < x.channel.count {
-        let p = pop_item(x, channel, room, i, end);
-        let y = p.parts;
-        return blocks::ended(Answer::Value(p.word), y);
+    pub fn push(&mut self, part: &mut [u32], i: u32, item: u32, end: End) -> Answer
+        requires { Lent self.old.channel (length part.old) }
+        ensures { record { answer = result; parts = self.new; part = part.new } ≡ pushed_or self.old part.old i item end }
+    {
+        if self.put_item(part, item, end) {
+            return self.end(Answer::Done);
+        }
+        self.open_wait(Wait::Push { at: i, item, end }, 0);
+        self.end(Answer::Waiting)
     }
-    let w = Wait::Pop {
-        at: i,
-        end,
-        limited: 0 < t,
-    };
-    blocks::ended(Answer::Waiting, blocks::open_wait(x, w, t))
-}
 
-pub fn flush(x: Parts) -> Parts
-    ensures { result ≡ flushed x }
-{
-    let mut y = x;
-    y.channel.first = 0;
-    y.channel.count = 0;
-    y
-}
+    pub fn pop(&mut self, part: &[u32], i: u32, end: End, t: u16) -> Answer
+        requires { Lent self.old.channel (length part.now) }
+        ensures { record { answer = result; parts = self.new } ≡ popped_or self.old part.now i end t }
+    {
+        if let Some(word) = self.take_item(part, end) {
+            return self.end(Answer::Value(word));
+        }
+        self.open_wait(
+            Wait::Pop {
+                at: i,
+                end,
+                limited: 0 < t,
+            },
+            t,
+        );
+        self.end(Answer::Waiting)
+    }
 
-pub fn write(x: Parts, channel: [Channel; 4], room: &mut [u32], i: u32, block: &[u32]) -> Worked
-    requires { Here x channel i (length room.old) }
-    ensures { (result.words ≡ words_written x block.now) × (result.parts ≡ written x result.words) × (room.new ≡ room_written x channel room.old i block.now result.words) }
-{
-    let m = room::write_at(room, channel, i, block);
-    let words = m.words;
-    if words == 0 {
-        return Worked { words, parts: x };
+    pub fn flush(&mut self)
+        ensures { self.new ≡ flushed self.old }
+    {
+        self.channel.first = 0;
+        self.channel.count = 0;
     }
-    let c = m.channel;
-    Worked {
-        words,
-        parts: wake_readers(x, c),
-    }
-}
 
-pub fn read(x: Parts, channel: [Channel; 4], room: &mut [u32], i: u32, block: &mut [u32]) -> Worked
-    requires { Here x channel i (length room.old) }
-    ensures { (result.words ≡ words_read x block.old) × (result.parts ≡ read_out x result.words) × (room.new ≡ room.old) × (block.new ≡ block_read x channel room.old i block.old result.words) }
-{
-    let m = room::read_at(room, channel, i, block);
-    let words = m.words;
-    if words == 0 {
-        return Worked { words, parts: x };
+    // How many words were written, or read.
+    pub fn write(&mut self, part: &mut [u32], block: &[u32]) -> u32
+        requires { Lent self.old.channel (length part.old) }
+        ensures { (result ≡ words_written self.old block.now) × (self.new ≡ written self.old result) × (part.new ≡ part_written self.old part.old block.now result) }
+    {
+        let words = self.channel.write_block(part, block);
+        if words != 0 {
+            blocks::wake_all(&mut self.channel.readers, &mut self.ready);
+        }
+        words
     }
-    let c = m.channel;
-    Worked {
-        words,
-        parts: wake_writers(x, c),
+
+    pub fn read(&mut self, part: &[u32], block: &mut [u32]) -> u32
+        requires { Lent self.old.channel (length part.now) }
+        ensures { (result ≡ words_read self.old block.old) × (self.new ≡ read_out self.old result) × (block.new ≡ block_read self.old part.now block.old result) }
+    {
+        let words = self.channel.read_block(part, block);
+        if words != 0 {
+            blocks::wake_all(&mut self.channel.writers, &mut self.ready);
+        }
+        words
     }
 }

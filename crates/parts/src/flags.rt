@@ -1,54 +1,46 @@
 // Sleep and event flags.
-ghost use Rattle.std.specs.Prelude.{◌≡◌, ◌<◌};
+ghost use Rattle.std.specs.Prelude.{◌≡◌};
 ghost use Rattle.parts.specs.Effects.{slept, cleared, waited, signalled};
 
-use crate::{Did, Parts, blocks};
-use record::{Flag, Wait};
+use crate::{Parts, blocks};
+use record::Wait;
 use rules::Answer;
 
-pub fn sleep(x: Parts, t: u16) -> Did
-    requires { x.running.0 < 32 }
-    ensures { result ≡ slept x t }
-{
-    blocks::ended(
-        Answer::Waiting,
-        blocks::open_wait(x, Wait::Sleep { limited: 0 < t }, t),
-    )
-}
-
-pub fn clear(x: Parts) -> Parts
-    ensures { result ≡ cleared x }
-{
-    let mut y = x;
-    y.flag.on = false;
-    y
-}
-
-pub fn wait(x: Parts, f: u32, t: u16) -> Did
-    requires { x.running.0 < 32 }
-    ensures { result ≡ waited x f t }
-{
-    if x.flag.on {
-        return blocks::ended(Answer::Done, clear(x));
+impl Parts {
+    pub fn sleep(&mut self, t: u16) -> Answer
+        ensures { record { answer = result; parts = self.new } ≡ slept self.old t }
+    {
+        self.open_wait(Wait::Sleep { limited: 0 < t }, t);
+        self.end(Answer::Waiting)
     }
-    let w = Wait::Flag {
-        at: f,
-        limited: 0 < t,
-    };
-    blocks::ended(Answer::Waiting, blocks::open_wait(x, w, t))
-}
 
-pub fn signal(x: Parts) -> Parts
-    ensures { result ≡ signalled x }
-{
-    let old = x.flag;
-    let w = maps::wake_all(old.waiters, x.ready);
-    let new = Flag {
-        on: (w.woken == 0) | old.on,
-        waiters: w.map,
-    };
-    let mut y = x;
-    y.ready = w.ready;
-    y.flag = new;
-    y
+    pub fn clear(&mut self)
+        ensures { self.new ≡ cleared self.old }
+    {
+        self.flag.on = false;
+    }
+
+    pub fn wait(&mut self, f: u32, t: u16) -> Answer
+        ensures { record { answer = result; parts = self.new } ≡ waited self.old f t }
+    {
+        if self.flag.on {
+            self.clear();
+            return self.end(Answer::Done);
+        }
+        self.open_wait(
+            Wait::Flag {
+                at: f,
+                limited: 0 < t,
+            },
+            t,
+        );
+        self.end(Answer::Waiting)
+    }
+
+    pub fn signal(&mut self)
+        ensures { self.new ≡ signalled self.old }
+    {
+        let woken = blocks::wake_all(&mut self.flag.waiters, &mut self.ready);
+        self.flag.on = (woken == 0) | self.flag.on;
+    }
 }

@@ -5,22 +5,21 @@ ghost use Rattle.parts.specs.Effects.{forced, woken};
 use crate::Parts;
 use maps::Number;
 
-pub fn force(x: Parts, p: Number) -> Parts
-    requires { p.0 < 32 }
-    ensures { result ≡ forced x p.0 }
-{
-    let mut y = x;
-    y.row.counter = 0;
-    y.ready = maps::entered(x.ready, p);
-    y
-}
-
-pub fn wake(x: Parts, p: Number) -> Parts
-    requires { p.0 < 32 }
-    ensures { result ≡ woken x p.0 }
-{
-    if x.row.counter == 0 {
-        return x;
+impl Parts {
+    pub fn force(&mut self, p: Number)
+        requires { p.0 < 32 }
+        ensures { self.new ≡ forced self.old p.0 }
+    {
+        self.row.counter = 0;
+        self.ready = maps::entered(self.ready, p);
     }
-    force(x, p)
+
+    pub fn wake(&mut self, p: Number)
+        requires { p.0 < 32 }
+        ensures { self.new ≡ woken self.old p.0 }
+    {
+        if self.row.counter != 0 {
+            self.force(p);
+        }
+    }
 }

@@ -1,12 +1,8 @@
 -- What `is_sound` computes decides soundness: `checked` passes exactly for the records of which the facts `Sound` hold.
 -- Assumes the lengths of the tables, which the record's type gives.
-use Prim.Native.Nat.{ℕ, ◌<◌}
-use mathlib.Core.Path.{◌≡◌, refl, sym, ap, ap₂, ◌∙◌}
-use mathlib.Core.Bool.{Bool, true, false, not, ◌&&◌, and-eq-true_iff, true≢false, false≢true}
-use mathlib.Core.List.{List}
-use lib.Dec.{ltb}
-use borrow.Author.Tests.{ltb-true, lt-ltb, eqb-true, eq-eqb, not-false}
-use native.Mathlib.Omega.{arith}
+use Rattle.std.proofs.Common.{ℕ, ◌<◌, ◌≡◌, refl, sym, ap, ◌∙◌, Bool, true, false, not, ◌&&◌, true≢false, ltb, ltb-true, lt-ltb, eqb-true, eq-eqb, arith}
+use Rattle.std.proofs.Math.Bool.{and-eq-true_iff, false≢true}
+use Rattle.std.proofs.lemmas.Bool.{not-false}
 use Rattle.maps.specs.Maps.{has}
 use Rattle.maps.proofs.Truth.{both}
 use Rattle.maps.proofs.Members.{has-zero, has-map-of}
@@ -14,15 +10,13 @@ use Rattle.maps.proofs.Bounds.{member-lt, members-within, empty-none, none-empty
 use Rattle.record.specs.declared.Kernel.{Kernel}
 use Rattle.record.specs.declared.Wait.{Wait}
 use Rattle.record.specs.declared.Wait.TheVariants.{Nothing, Sleep, Flag, Mutex, Push, Pop}
-use Rattle.record.specs.declared.soundness.Tally.{Tally}
-use Rattle.record.specs.declared.soundness.Seen.{Seen}
 use Rattle.record.specs.Words.{implies, all_below}
 use Rattle.record.specs.Limits.{channel_fits}
 use Rattle.record.specs.Record.{services, wait_of, count, idle, lengths, mutex_at, channel_at}
 use Rattle.record.specs.Places.{Place, nowhere, is_open, sleeps, limited, place_of, real, map_at, everywhere}
 use Rattle.record.specs.Sound.{is_ready, rests, in_its_map, in_no_map, user_owner, sound}
 use Rattle.record.specs.Facts.{Limits, Sound, allowed}
-use Rattle.record.specs.Check.{Small, numbers_fit, slot_of, tally_of, waiting_of, start, flags_seen, mutexes_seen, readers_seen, writers_seen, all_seen, rest, checked}
+use Rattle.record.specs.Check.{Small, numbers_fit, slot_of, tally_of, checked}
 use Rattle.record.proofs.Logic.{facts, imp-iff, all-iff, same_test}
 use Rattle.record.proofs.Place.{places-to, places-from, closed-nowhere}
 use Rattle.record.proofs.Status as status
@@ -207,29 +201,3 @@ module _ (k : Kernel) where
 
   pub decides : lengths k ≡ true → checked k ≡ sound k
   decides len = same_test (checked k) (sound k) (λ e. sound-from k (checked-to len e)) (λ e. checked-from (sound-to k e))
-
-  -- ---- as the code has it: from what each pass gave
-  seen_all : (w : List ℕ) (flags mutexes readers writers : Seen)
-      → w ≡ waiting_of k.setup k.process (count k)
-      → flags ≡ flags_seen k.flag w start k.setup.flags
-      → mutexes ≡ mutexes_seen (count k) k.mutex w flags k.setup.mutexes
-      → readers ≡ readers_seen k.channel w mutexes k.setup.channels
-      → writers ≡ writers_seen k.channel w readers k.setup.channels
-      → writers ≡ seen k.setup k.process (services k)
-  unfolding all_seen
-  seen_all w flags mutexes readers writers e f g h i = i ∙ rw (h, g, f, e)
-
-  pub verdict : lengths k ≡ true → numbers_fit k.setup k.depth k.running.0 k.next.0 ≡ true
-      → (t : Tally) (w : List ℕ) (flags mutexes readers writers : Seen)
-      → t ≡ tally_of k.setup k.process (count k)
-      → w ≡ waiting_of k.setup k.process (count k)
-      → flags ≡ flags_seen k.flag w start k.setup.flags
-      → mutexes ≡ mutexes_seen (count k) k.mutex w flags k.setup.mutexes
-      → readers ≡ readers_seen k.channel w mutexes k.setup.channels
-      → writers ≡ writers_seen k.channel w readers k.setup.channels
-      → rest k.setup k.depth k.running.0 k.next.0 k.ready t writers ≡ sound k
-  unfolding checked
-  verdict len fit t w flags mutexes readers writers a e f g h i =
-      ap₂ (rest k.setup k.depth k.running.0 k.next.0 k.ready) a (seen_all w flags mutexes readers writers e f g h i)
-      ∙ sym (ap (λ (b : Bool). b && rest k.setup k.depth k.running.0 k.next.0 k.ready (tally_of k.setup k.process (count k)) (seen k.setup k.process (services k))) fit)
-      ∙ decides len

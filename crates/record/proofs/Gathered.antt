@@ -1,16 +1,10 @@
 -- What the two passes of the check gather: for each slot the map of those who wait there; who is in any map; who stands in a map that isn't its
 -- wait's; and whether the tests passed. Assumes nothing.
-use Prim.Native.Nat.{ℕ, zero, suc, ◌+◌, ◌^◌, ◌<◌}
-use mathlib.Core.Path.{◌≡◌, refl, sym, ap, ◌∙◌}
-use mathlib.Core.Bool.{Bool, true, false, not, ◌&&◌, ◌||◌, beq, cond, and_assoc, and-true, false≢true}
-use mathlib.Core.List.{List}
-use lib.Bits.{bit_or, or_zero_r}
-use lib.Dec.{ltb, eqb}
-use lib.ListN.{get_or, set, length, length-set, length-replicate}
-use lib.Seq.{get_or-set_same, get_or-set_other}
-use borrow.Author.Tests.{eqb-true, eqb-false}
-use native.Mathlib.Nat.{zero-add}
-use native.Mathlib.Omega.{arith}
+use Rattle.std.proofs.Common.{ℕ, zero, suc, ◌+◌, ◌^◌, ◌<◌, ◌≡◌, refl, sym, ap, ◌∙◌, Bool, true, false, not, ◌&&◌, ◌||◌, cond, List, bit_or, ltb, eqb, get_or, set, length, length-set, get_or-set_same, get_or-set_other, eqb-true, zero-add, arith}
+use Rattle.std.proofs.Math.Bool.{beq, and_assoc, and-true, false≢true}
+use Rattle.std.proofs.Math.ListN.{length-replicate}
+use Rattle.std.proofs.lemmas.Bool.{eqb-false}
+use Rattle.std.specs.Int.Bits.{or_zero_r}
 use Rattle.maps.specs.Maps.{has, minus, map_of}
 use Rattle.maps.proofs.Truth.{taut, equal}
 use Rattle.maps.proofs.Members.{has-or, has-minus, has-zero, has-map-of}

@@ -1,10 +1,6 @@
 -- The test `sound` and the facts `Sound` say the same. Assumes nothing.
-use Prim.Native.Nat.{ℕ, ◌^◌}
-use mathlib.Core.Path.{◌≡◌, refl, sym, ap, ◌∙◌}
-use mathlib.Core.Logic.{◌↔◌}
-use mathlib.Core.Bool.{Bool, true, false, not, ◌&&◌, ◌||◌, and-eq-true_iff, false≢true}
-use borrow.Author.Tests.{ltb-true, lt-ltb}
-use native.Mathlib.Omega.{arith}
+use Rattle.std.proofs.Common.{ℕ, ◌^◌, ◌≡◌, refl, sym, ap, ◌∙◌, ◌↔◌, Bool, true, false, not, ◌&&◌, ◌||◌, ltb-true, lt-ltb, arith}
+use Rattle.std.proofs.Math.Bool.{and-eq-true_iff, false≢true}
 use Rattle.maps.specs.Maps.{has}
 use Rattle.maps.proofs.Truth.{both}
 use Rattle.ring.specs.declared.Channel.{Channel}

@@ -1,10 +1,7 @@
 -- The lengths of a record's tables, which its type gives: in a function's proof, `search (needs, length-mapped)` finds `Shaped` of a parameter.
 -- Assumes nothing.
-use Prim.Native.Nat.{ℕ}
-use mathlib.Core.Path.{◌≡◌, sym, ◌∙◌}
-use mathlib.Core.Bool.{true}
-use mathlib.Core.List.{List, map}
-use lib.ListN.{length, length-map}
+use Rattle.std.proofs.Common.{ℕ, ◌≡◌, sym, ◌∙◌, true, List, map, length}
+use Rattle.std.proofs.Math.ListN.{length-map}
 use Rattle.record.specs.declared.Kernel.{Kernel}
 use Rattle.record.specs.Record.{lengths}
 use Rattle.record.proofs.Logic.{facts}

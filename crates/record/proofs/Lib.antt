@@ -4,7 +4,9 @@ pub mod Place
 pub mod Status
 pub mod Iff
 pub mod Started
+pub mod Capacities
 pub mod Slots
 pub mod Gathered
+pub mod Passes
 pub mod Masks
 pub mod Decides

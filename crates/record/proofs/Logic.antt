@@ -1,13 +1,6 @@
 -- Tests to facts and back: `simp facts at h` turns a test that passed into what it says. Assumes nothing.
-use Prim.Native.Nat.{ℕ, zero, suc, ◌<◌, ◌≤◌}
-use mathlib.Core.Path.{◌≡◌, refl, sym}
-use mathlib.Core.Logic.{◌↔◌}
-use mathlib.Core.Bool.{Bool, true, false, not, ◌&&◌, ◌||◌, beq, and-eq-true_iff, false≢true}
-use lib.Dec.{leb, eqb}
-use borrow.Author.Tests.{leb-true, eqb-true, le-leb, eq-eqb}
-use borrow.Author.Count.{below_more}
-use native.Mathlib.Nat.{not-suc-le-zero}
-use native.Mathlib.Omega.{arith}
+use Rattle.std.proofs.Common.{ℕ, zero, suc, ◌<◌, ◌≤◌, ◌≡◌, refl, sym, ◌↔◌, Bool, true, false, not, leb, eqb, leb-true, eqb-true, le-leb, eq-eqb, below_more, not-suc-le-zero, arith}
+use Rattle.std.proofs.Math.Bool.{and-eq-true_iff, false≢true}
 use Rattle.record.specs.Words.{implies, all_below}
 
 pub imp-iff : (a b : Bool) → (implies a b ≡ true) ↔ (a ≡ true → b ≡ true)

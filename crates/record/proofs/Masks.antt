@@ -1,11 +1,7 @@
 -- Rules 3 to 5 of all processes at once: the mask of those who break one is empty exactly if each of the n processes keeps them, where 'in its map'
 -- and 'in a service map' are both read off the union of the maps. Assumes nothing.
-use Prim.Native.Nat.{ℕ, ◌<◌}
-use mathlib.Core.Path.{◌≡◌, refl, sym, ap, ◌∙◌}
-use mathlib.Core.Bool.{Bool, true, false, not, ◌&&◌, ◌||◌, beq}
-use mathlib.Core.List.{List}
-use lib.Dec.{ltb, eqb}
-use borrow.Author.Tests.{eqb-true, eq-eqb, lt-ltb, ltb-true}
+use Rattle.std.proofs.Common.{ℕ, ◌<◌, ◌≡◌, refl, sym, ap, ◌∙◌, Bool, true, false, not, ◌&&◌, ◌||◌, List, ltb, eqb, eqb-true, eq-eqb, lt-ltb, ltb-true}
+use Rattle.std.proofs.Math.Bool.{beq}
 use Rattle.maps.specs.Maps.{has, everyone}
 use Rattle.maps.proofs.Truth.{taut, equal, mp, both}
 use Rattle.maps.proofs.Members.{has-and, has-or, has-minus, has-everyone, has-map-of}

@@ -1,9 +1,6 @@
 -- Places: two of one kind and one number are one; what holds of every real place; waits and places. Assumes nothing.
-use Prim.Native.Nat.{ℕ, zero, suc}
-use mathlib.Core.Path.{◌≡◌, refl, sym, ap, ap₂, ◌∙◌}
-use mathlib.Core.Bool.{Bool, true, false, and-eq-true_iff, true≢false, false≢true}
-use lib.Dec.{eqb}
-use borrow.Author.Tests.{eqb-true, eq-eqb, lt-ltb, ltb-true}
+use Rattle.std.proofs.Common.{ℕ, zero, suc, ◌≡◌, refl, sym, ap, ap₂, ◌∙◌, Bool, true, false, true≢false, eqb, eqb-true, eq-eqb, lt-ltb, ltb-true}
+use Rattle.std.proofs.Math.Bool.{and-eq-true_iff, false≢true}
 use Rattle.maps.proofs.Truth.{and_l, and_r, both}
 use Rattle.record.specs.declared.Setup.{Setup}
 use Rattle.record.specs.declared.Wait.{Wait}

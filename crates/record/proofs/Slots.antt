@@ -1,15 +1,9 @@
 -- The slots of the check: each real place has one of its own below 24, and the others share slot 24. Assumes nothing.
-use Prim.Native.Nat.{ℕ, ◌+◌, ◌-◌, ◌<◌, ◌≤◌}
-use mathlib.Core.Path.{◌≡◌, refl, sym, ap, ◌∙◌}
-use mathlib.Core.Bool.{Bool, true, false, cond, false≢true}
-use lib.Dec.{ltb}
-use borrow.Author.Tests.{ltb-true, lt-ltb, le-ltb}
-use native.Mathlib.Omega.{arith}
+use Rattle.std.proofs.Common.{ℕ, ◌+◌, ◌-◌, ◌<◌, ◌≤◌, ◌≡◌, refl, sym, ap, ◌∙◌, Bool, true, false, cond, ltb, ltb-true, lt-ltb, le-ltb, arith}
+use Rattle.std.proofs.Math.Bool.{false≢true}
 use Rattle.record.specs.declared.Setup.{Setup}
-use Rattle.record.specs.declared.Wait.{Wait}
-use Rattle.record.specs.declared.soundness.Class.{Class}
-use Rattle.record.specs.Places.{Place, nowhere, at_flag, at_mutex, at_readers, at_writers, real_in, place_of}
-use Rattle.record.specs.Check.{Small, slot_of, class_of}
+use Rattle.record.specs.Places.{Place, nowhere, at_flag, at_mutex, at_readers, at_writers, real_in}
+use Rattle.record.specs.Check.{Small, slot_of}
 
 -- a service's slot, base + i of count of them, or 24
 among : (i count base : ℕ) → base + count ≤ 24 → cond (ltb i count) (base + i) 24 < 25
@@ -25,9 +19,6 @@ slot_lt s (at_flag i) m = among i s.flags 0 (omega (arith, m.flags))
 slot_lt s (at_mutex i) m = among i s.mutexes 8 (omega (arith, m.mutexes))
 slot_lt s (at_readers i) m = among i s.channels 16 (omega (arith, m.channels))
 slot_lt s (at_writers i) m = among i s.channels 20 (omega (arith, m.channels))
-
-pub class-slot-lt : (s : Setup) (w : Wait) (c : Class) → Small s → c ≡ class_of s w → c.slot < 25
-class-slot-lt s w c m e = rw e (slot_lt s (place_of w) m)
 
 -- ---- a slot below 24 is that of one place
 real-slot : (i count base : ℕ) → ltb i count ≡ true → cond (ltb i count) (base + i) 24 ≡ base + i
@@ -49,6 +40,14 @@ slot-shared s (at_flag i) r = shared-slot i s.flags 0 r
 slot-shared s (at_mutex i) r = shared-slot i s.mutexes 8 r
 slot-shared s (at_readers i) r = shared-slot i s.channels 16 r
 slot-shared s (at_writers i) r = shared-slot i s.channels 20 r
+
+-- so a slot below 24 says that there is such a service
+pub slot-named : (s : Setup) (a : Place) → Small s → ltb (slot_of s a) 24 ≡ real_in s a
+slot-named s a m = go (real_in s a) refl
+  where
+    go : (t : Bool) → real_in s a ≡ t → ltb (slot_of s a) 24 ≡ t
+    go true r = lt-ltb (slot_of s a) 24 (slot-own s a m r)
+    go false r = le-ltb (slot_of s a) 24 (omega (arith, slot-shared s a r))
 
 place_in : ℕ → Place
 place_in j = cond (ltb j 8) (at_flag j) (cond (ltb j 16) (at_mutex (j - 8)) (cond (ltb j 20) (at_readers (j - 16)) (at_writers (j - 20))))

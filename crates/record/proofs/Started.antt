@@ -1,13 +1,8 @@
 -- A fresh record within the limits is sound, for every setup; the record of all zeros is not. Assumes nothing.
-use Prim.Native.Nat.{ℕ, zero, suc, ◌-◌, ◌<◌, ◌≤◌}
-use mathlib.Core.Path.{◌≡◌, refl, sym, ap, subst, ◌∙◌}
-use mathlib.Core.Bool.{Bool, true, false, cond, and-eq-true_iff, false≢true}
-use mathlib.Core.List.{List}
-use lib.Dec.{ltb}
-use lib.ListN.{get_or, replicate, length-replicate}
-use lib.Pow.{pow_pos}
-use borrow.Author.Tests.{lt-ltb, lt-leb}
-use native.Mathlib.Omega.{arith}
+use Rattle.std.proofs.Common.{ℕ, zero, suc, ◌-◌, ◌<◌, ◌≤◌, ◌≡◌, refl, sym, ap, subst, ◌∙◌, Bool, true, false, cond, List, ltb, get_or, replicate, pow_pos, lt-ltb, arith}
+use Rattle.std.proofs.Math.Bool.{and-eq-true_iff, false≢true}
+use Rattle.std.proofs.Math.ListN.{length-replicate}
+use Rattle.std.proofs.lemmas.Bool.{lt-leb}
 use Rattle.maps.specs.Maps.{has, everyone}
 use Rattle.maps.proofs.Members.{has-zero, has-everyone}
 use Rattle.maps.proofs.Bounds.{everyone-lt}

@@ -1,6 +1,5 @@
 -- Rules 3 to 5 of one process as truth values: what the rules say is `allowed` with 'in no map but its wait's'. Each law is computed. Assumes nothing.
-use mathlib.Core.Path.{◌≡◌, refl}
-use mathlib.Core.Bool.{Bool, true, false, not, ◌&&◌, ◌||◌}
+use Rattle.std.proofs.Common.{◌≡◌, refl, Bool, true, false, not, ◌&&◌, ◌||◌}
 use Rattle.maps.proofs.Truth.{taut, mp, both}
 use Rattle.record.specs.Words.{implies, exactly}
 use Rattle.record.specs.Facts.{allowed}

@@ -1,6 +1,8 @@
 -- What `is_sound` computes, step by step: the words of the check, and nothing that a reader of the rules has to believe. That it decides `sound` is
 -- proved (proofs/Decides).
-use Rattle.std.specs.Prelude.{ℕ, zero, suc, ◌+◌, ◌-◌, ◌^◌, ◌≤◌, Bool, true, false, not, cond, ◌&&◌, List, ltb, leb, eqb, get_or, set, replicate}
+use Rattle.std.specs.Prelude.{ℕ, zero, suc, ◌+◌, ◌-◌, ◌^◌, ◌<◌, ◌≤◌, ◌≡◌, Bool, true, false, not, cond, ◌&&◌, List, ltb, leb, eqb, length, get_or, set, replicate}
+use Rattle.std.specs.Borrow.{Bor}
+use Rattle.std.specs.Fn.{Shared, FnReturnsAt}
 use Rattle.std.specs.Int.Bits.{bit_and, bit_or}
 use Rattle.maps.specs.Maps.{has, minus, everyone, map_of, lowest}
 use Rattle.ring.specs.declared.Channel.{Channel}
@@ -41,10 +43,10 @@ slot_of s (at_readers i) = cond (ltb i s.channels) (16 + i) 24
 slot_of s (at_writers i) = cond (ltb i s.channels) (20 + i) 24
 
 abbrev pub waits_at : ℕ → Bool → ℕ → ℕ → Class
-waits_at at l count base = record { waits = true; sleeps = false; limited = l; named = ltb at count; slot = cond (ltb at count) (base + at) 24 }
+waits_at at l count base = record { waits = true; sleeps = false; limited = l; slot = cond (ltb at count) (base + at) 24 }
 
 abbrev pub class_of : Setup → Wait → Class
-class_of s w = record { waits = is_open w; sleeps = sleeps w; limited = limited w; named = real_in s (place_of w); slot = slot_of s (place_of w) }
+class_of s w = record { waits = is_open w; sleeps = sleeps w; limited = limited w; slot = slot_of s (place_of w) }
 
 abbrev pub tag_if : Bool → ℕ → ℕ
 tag_if b tag = cond b tag 0
@@ -54,7 +56,7 @@ counted t c counter tag = record {
   waits = bit_or t.waits (tag_if c.waits tag);
   sleeps = bit_or t.sleeps (tag_if c.sleeps tag);
   limited = bit_or t.limited (tag_if c.limited tag);
-  named = bit_or t.named (tag_if c.named tag);
+  named = bit_or t.named (tag_if (ltb c.slot 24) tag);
   rests = bit_or t.rests (tag_if (eqb counter 0) tag);
 }
 
@@ -88,6 +90,10 @@ unfoldable pub over : (ℕ → ℕ) → (ℕ → ℕ) → (ℕ → Bool) → See
 over f g h m zero = m
 over f g h m (suc i) = saw (over f g h m i) (f i) (g i) (h i)
 
+-- a closure gives f i of item i of a list
+abbrev pub Gives : {F T R : Type 0} → Shared F (Bor T × Unit {0}) R → F → List T → (ℕ → R) → Type 0
+Gives {T = T} {R = R} g k xs f = (i : ℕ) (x : T) (r : R) → i < length xs → x ≡ get_or xs i x → FnReturnsAt g k x r → r ≡ f i
+
 abbrev pub start : Seen
 start = record { any = 0; stray = 0; fine = true }
 
@@ -105,13 +111,13 @@ readers_seen channel waiting m n =
 abbrev pub writers_seen : List Channel → List ℕ → Seen → ℕ → Seen
 writers_seen channel waiting m n = over (λ i. (get_or channel i no_channel).writers) (λ i. get_or waiting (20 + i) 0) (λ i. true) m n
 
+-- all the services, where the words of those who wait are w
+abbrev pub services_seen : Setup → List Flag → List Mutex → List Channel → List ℕ → Seen
+services_seen s flag mutex channel w =
+    writers_seen channel w (readers_seen channel w (mutexes_seen s.processes mutex w (flags_seen flag w start s.flags) s.mutexes) s.channels) s.channels
+
 unfoldable pub all_seen : Setup → List Process → List Flag → List Mutex → List Channel → Seen
-all_seen s process flag mutex channel =
-    writers_seen channel (waiting_of s process s.processes)
-    (readers_seen channel (waiting_of s process s.processes)
-    (mutexes_seen s.processes mutex (waiting_of s process s.processes)
-    (flags_seen flag (waiting_of s process s.processes) start s.flags) s.mutexes)
-    s.channels) s.channels
+all_seen s process flag mutex channel = services_seen s flag mutex channel (waiting_of s process s.processes)
 
 -- ---- rules 3 to 5 of all processes at once: those who break one
 unfoldable pub broken : Tally → ℕ → ℕ → ℕ → ℕ
@@ -135,8 +141,10 @@ rest s depth running next ready t seen =
     seen.fine && eqb seen.stray 0 && within s.processes ready && eqb (broken t seen.any ready (everyone s.processes)) 0
     && not (has t.waits (s.processes - 1)) && choice_fits s.mode depth running next ready
 
-unfoldable pub checked : Kernel → Bool
-checked k =
-    numbers_fit k.setup k.depth k.running.0 k.next.0
-    && rest k.setup k.depth k.running.0 k.next.0 k.ready (tally_of k.setup k.process k.setup.processes)
+abbrev pub rest_fits : Kernel → Bool
+rest_fits k =
+    rest k.setup k.depth k.running.0 k.next.0 k.ready (tally_of k.setup k.process k.setup.processes)
     (all_seen k.setup k.process k.flag k.mutex k.channel)
+
+unfoldable pub checked : Kernel → Bool
+checked k = numbers_fit k.setup k.depth k.running.0 k.next.0 && rest_fits k

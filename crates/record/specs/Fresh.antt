@@ -1,19 +1,18 @@
 -- Setup (01, A fresh record; refusal 14).
-use Rattle.std.specs.Prelude.{ℕ, Bool, cond, ◌&&◌, ◌||◌, List, [], ◌∷◌, ltb, leb, get_or, replicate}
+use Rattle.std.specs.Prelude.{ℕ, Bool, cond, ◌&&◌, ◌||◌, List, [], ◌∷◌, ltb, leb, get_or, replicate, ⊤, Result, Ok, Err}
 use Rattle.ring.specs.declared.Channel.{Channel}
 use Rattle.maps.specs.Maps.{everyone}
 use Rattle.record.specs.declared.Kernel.{Kernel}
 use Rattle.record.specs.declared.Setup.{Setup}
 use Rattle.record.specs.declared.fresh.Fresh.{Fresh}
-use Rattle.record.specs.declared.fresh.Begun.{Begun}
-use Rattle.record.specs.declared.fresh.Begun.TheVariants.{Done, OutsideLimits}
+use Rattle.record.specs.declared.fresh.OutsideLimits.{OutsideLimits}
 use Rattle.record.specs.Limits.{counts_fit, capacity_fits}
 use Rattle.record.specs.Record.{no_process, no_flag, no_mutex, no_channel}
 
 -- the document's number of the answer: 14, setup outside the limits; 0 where there is no refusal
-abbrev pub refusal_number : Begun → ℕ
-refusal_number Done = 0
-refusal_number OutsideLimits = 14
+abbrev pub refusal_number : Result ⊤ OutsideLimits → ℕ
+refusal_number (Ok done) = 0
+refusal_number (Err e) = 14
 
 -- the record of all zeros: direct mode, no waits, owners nobody
 abbrev pub zeros : Kernel
@@ -66,4 +65,4 @@ setup_refusal s capacities = cond (setup_fits s capacities) 0 14
 
 -- the fresh record within the limits; outside them refusal 14 and the record of all zeros
 abbrev pub begun : Setup → List ℕ → Fresh
-begun s capacities = cond (setup_fits s capacities) (record { answer = Done; kernel = fresh s capacities }) (record { answer = OutsideLimits; kernel = zeros })
+begun s capacities = cond (setup_fits s capacities) (record { answer = Ok tt; kernel = fresh s capacities }) (record { answer = Err (record {}); kernel = zeros })

@@ -1,11 +1,10 @@
 -- The parts of the record: its slots, what an empty slot holds, and what its type says of it.
-use Rattle.std.specs.Prelude.{ℕ, ◌-◌, Bool, false, ◌&&◌, List, eqb, get_or, length}
+use Rattle.std.specs.Prelude.{ℕ, ◌-◌, Bool, false, ◌&&◌, List, eqb, get_or, length, None}
 use Rattle.ring.specs.declared.Channel.{Channel}
 use Rattle.record.specs.declared.Kernel.{Kernel}
 use Rattle.record.specs.declared.Process.{Process}
 use Rattle.record.specs.declared.Flag.{Flag}
 use Rattle.record.specs.declared.Mutex.{Mutex}
-use Rattle.record.specs.declared.Owner.TheVariants.{Nobody}
 use Rattle.record.specs.declared.Wait.{Wait}
 use Rattle.record.specs.declared.Wait.TheVariants.{Nothing}
 
@@ -17,7 +16,7 @@ abbrev pub no_flag : Flag
 no_flag = record { on = false; waiters = 0 }
 
 abbrev pub no_mutex : Mutex
-no_mutex = record { owner = Nobody; waiters = 0 }
+no_mutex = record { owner = None; waiters = 0 }
 
 abbrev pub no_channel : Channel
 no_channel = record { capacity = 0; first = 0; count = 0; readers = 0; writers = 0 }

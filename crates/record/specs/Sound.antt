@@ -1,9 +1,8 @@
 -- A sound record (01, The kernel record), rule by rule, in the document's words.
-use Rattle.std.specs.Prelude.{ℕ, ◌-◌, ◌^◌, Bool, true, not, ◌&&◌, ◌||◌, ltb, leb, eqb}
+use Rattle.std.specs.Prelude.{ℕ, ◌-◌, ◌^◌, Bool, true, not, ◌&&◌, ◌||◌, ltb, leb, eqb, Option, None, Some}
+use Rattle.maps.specs.declared.Number.{Number}
 use Rattle.maps.specs.Maps.{has, lowest}
 use Rattle.record.specs.declared.Kernel.{Kernel}
-use Rattle.record.specs.declared.Owner.{Owner}
-use Rattle.record.specs.declared.Owner.TheVariants.{Nobody, Process}
 use Rattle.record.specs.Words.{implies, exactly, all_below}
 use Rattle.record.specs.Limits.{counts_fit, channel_fits}
 use Rattle.record.specs.Record.{process_at, mutex_at, channel_at, wait_of, count, idle, lengths}
@@ -65,9 +64,9 @@ abbrev pub rule5 : Kernel → ℕ → Bool
 rule5 k p = implies (is_ready k p && (not (limited (wait_of k p)) || sleeps (wait_of k p) || in_its_map k p)) (rests k p)
 
 -- 6: owners are user processes
-abbrev pub user_owner : ℕ → Owner → Bool
-user_owner n Nobody = true
-user_owner n (Process q) = ltb q.0 (n - 1)
+abbrev pub user_owner : ℕ → Option Number → Bool
+user_owner n None = true
+user_owner n (Some q) = ltb q.0 (n - 1)
 
 abbrev pub rule6 : Kernel → Bool
 rule6 k = all_below k.setup.mutexes (λ i. user_owner (count k) (mutex_at k i).owner)

@@ -1,22 +1,20 @@
 // Setup: the fresh record within the limits, refusal 14 and the record of all zeros outside them.
-ghost use Rattle.std.specs.Prelude.{◌≡◌};
+ghost use Rattle.std.specs.Prelude.{◌≡◌, ◌↔◌, All, IsTrue};
 ghost use Rattle.record.specs.Limits.{counts_fit, capacity_fits};
-ghost use Rattle.record.specs.Fresh.{zeros, start_channel, capacity_allowed, setup_fits, begun, refusal_number, setup_refusal};
+ghost use Rattle.record.specs.Fresh.{zeros, start_channel, setup_fits, begun, refusal_number, setup_refusal};
 
-use crate::{Flag, Kernel, Mutex, Owner, Process, Setup, Wait};
+use crate::{Flag, Kernel, Mutex, Process, Setup};
 use maps::Number;
 use ring::Channel;
 
-// What setup answers: done, or refusal 14.
-#[derive(Clone, Copy)]
-pub enum Begun {
-    Done,
-    OutsideLimits,
-}
+// Refusal 14.
+#[derive(Clone, Copy, Debug, PartialEq, Eq)]
+pub struct OutsideLimits;
 
+// What setup answers, and the record then: of all zeros where it is refused (`begun` of specs/Fresh), so it stands beside the Result and not in it.
 #[derive(Clone, Copy)]
 pub struct Fresh {
-    pub answer: Begun,
+    pub answer: Result<(), OutsideLimits>,
     pub kernel: Kernel,
 }
 
@@ -37,39 +35,31 @@ pub fn capacity_fits(capacity: u32) -> bool
     (Kernel::FEWEST_ITEMS <= capacity) & (capacity <= Kernel::ITEMS)
 }
 
-// The capacity of channel i is within its limits, or there is no such channel.
-fn capacity_allowed(channels: u32, i: u32, capacity: u32) -> bool
-    ensures { result ≡ capacity_allowed channels i capacity }
+// Each capacity is within its limits.
+fn all_fit(capacities: &[u32]) -> bool
+    ensures { IsTrue result ↔ All (λ c. IsTrue (capacity_fits c)) capacities.now }
 {
-    (channels <= i) | capacity_fits(capacity)
+    capacities.iter().all(|c| capacity_fits(*c))
 }
 
+// The counts are within their limits, and the capacity of each channel that there is.
 fn setup_fits(s: Setup, capacities: [u32; 4]) -> bool
     ensures { result ≡ setup_fits s capacities }
 {
-    counts_fit(s)
-        & capacity_allowed(s.channels, 0, capacities[0])
-        & capacity_allowed(s.channels, 1, capacities[1])
-        & capacity_allowed(s.channels, 2, capacities[2])
-        & capacity_allowed(s.channels, 3, capacities[3])
+    counts_fit(s) && all_fit(&capacities[..s.channels as usize])
 }
 
 // Channel i, empty, and zeros where there is no such channel.
 fn start_channel(channels: u32, i: u32, capacity: u32) -> Channel
     ensures { result ≡ start_channel channels i capacity }
 {
-    let mut c = Channel {
-        capacity: 0,
-        first: 0,
-        count: 0,
-        readers: 0,
-        writers: 0,
-    };
     if i < channels {
-        c.capacity = capacity;
-        return c;
+        return Channel {
+            capacity,
+            ..Channel::default()
+        };
     }
-    c
+    Channel::default()
 }
 
 impl Kernel {
@@ -77,59 +67,38 @@ impl Kernel {
         ensures { result ≡ zeros }
     {
         Kernel {
-            setup: Setup {
-                mode: 0,
-                processes: 0,
-                flags: 0,
-                mutexes: 0,
-                channels: 0,
-            },
+            setup: Setup::default(),
             depth: 0,
             running: Number(0),
             next: Number(0),
             ready: 0,
             ticks: 0,
-            process: [Process {
-                counter: 0,
-                wait: Wait::Nothing,
-            }; 32],
-            flag: [Flag {
-                on: false,
-                waiters: 0,
-            }; 8],
-            mutex: [Mutex {
-                owner: Owner::Nobody,
-                waiters: 0,
-            }; 8],
-            channel: [Channel {
-                capacity: 0,
-                first: 0,
-                count: 0,
-                readers: 0,
-                writers: 0,
-            }; 4],
+            process: [Process::default(); 32],
+            flag: [Flag::default(); 8],
+            mutex: [Mutex::default(); 8],
+            channel: [Channel::default(); 4],
         }
     }
 
-    // Capacities beyond the number of channels are not looked at.
+    // Capacities beyond the number of channels are not looked at. An array of four, the most channels that there are, and not a slice: so setup takes any
+    // capacities that a caller can pass, and cannot fail otherwise than by its refusal.
     pub fn fresh(s: Setup, capacities: [u32; 4]) -> Fresh
         ensures { (result ≡ begun s capacities) × (refusal_number result.answer ≡ setup_refusal s capacities) }
     {
         let mut k = Kernel::zeros();
         if !setup_fits(s, capacities) {
             return Fresh {
-                answer: Begun::OutsideLimits,
+                answer: Err(OutsideLimits),
                 kernel: k,
             };
         }
         k.setup = s;
         k.ready = maps::every(s.processes);
-        k.channel[0] = start_channel(s.channels, 0, capacities[0]);
-        k.channel[1] = start_channel(s.channels, 1, capacities[1]);
-        k.channel[2] = start_channel(s.channels, 2, capacities[2]);
-        k.channel[3] = start_channel(s.channels, 3, capacities[3]);
+        for (i, c) in k.channel.iter_mut().enumerate() {
+            *c = start_channel(s.channels, i as u32, capacities[i]);
+        }
         Fresh {
-            answer: Begun::Done,
+            answer: Ok(()),
             kernel: k,
         }
     }

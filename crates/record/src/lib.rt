@@ -9,9 +9,11 @@ use ring::{Channel, End};
 pub mod fresh;
 pub mod soundness;
 
-// An open wait. All but a push remember whether they are limited.
-#[derive(Clone, Copy)]
+// An open wait. All but a push remember whether they are limited. None is a variant and no Option around five, since document 01 lists it among the six
+// waits, and `is_open`, `sleeps`, `limited` and `place_of` of specs/Places answer for each of the six.
+#[derive(Clone, Copy, PartialEq, Eq, Default)]
 pub enum Wait {
+    #[default]
     Nothing,
     Sleep { limited: bool },
     Flag { at: u32, limited: bool },
@@ -20,32 +22,27 @@ pub enum Wait {
     Pop { at: u32, end: End, limited: bool },
 }
 
-#[derive(Clone, Copy)]
-pub enum Owner {
-    Nobody,
-    Process(Number),
-}
-
-#[derive(Clone, Copy)]
+#[derive(Clone, Copy, Default)]
 pub struct Process {
     pub counter: u16,
     pub wait: Wait,
 }
 
-#[derive(Clone, Copy)]
+#[derive(Clone, Copy, Default)]
 pub struct Flag {
     pub on: bool,
     pub waiters: u32,
 }
 
-#[derive(Clone, Copy)]
+#[derive(Clone, Copy, Default)]
 pub struct Mutex {
-    pub owner: Owner,
+    pub owner: Option<Number>,
     pub waiters: u32,
 }
 
-// What setup fixes for good. Mode 0 is direct, mode 1 deferred.
-#[derive(Clone, Copy)]
+// What setup fixes for good. Mode 0 is direct, mode 1 deferred: a number and no enum, since a damaged record may hold any, and rule 1 of `sound` has to
+// speak of a mode of 2.
+#[derive(Clone, Copy, Default)]
 pub struct Setup {
     pub mode: u32,
     pub processes: u32,

@@ -1,11 +1,8 @@
 -- The arithmetic of places: a sum below twice the capacity wraps at most once, two places of one channel differ, and the ends' places are
 -- places after the first. Assumes nothing.
-use Prim.Native.Nat.{ℕ, ◌+◌, ◌-◌, ◌%◌, ◌<◌, ◌≤◌}
-use mathlib.Core.Path.{◌≡◌, sym, ap, ◌∙◌}
-use mathlib.Core.Logic.{◌⊎◌, inl, inr, ⊎_elim}
-use native.Mathlib.Decide.{dec_lt}
-use native.Mathlib.Nat.{add-zero, add_assoc, mod-lt, mod-eq_of_lt, mod-eq-sub-mod, mod-add-mod, add-mod_right}
-use native.Mathlib.Omega.{arith}
+use Rattle.std.proofs.Common.{ℕ, ◌+◌, ◌-◌, ◌%◌, ◌<◌, ◌≤◌, ◌≡◌, ◌⊎◌, sym, ap, ◌∙◌, inl, inr, ⊎_elim, arith, add-zero, add_assoc, mod-lt, mod-eq_of_lt}
+use Rattle.std.proofs.Math.Decide.{dec_lt}
+use Rattle.std.proofs.Math.Nat.{mod-eq-sub-mod, mod-add-mod, add-mod_right}
 use Rattle.ring.specs.declared.Channel.{Channel}
 use Rattle.ring.specs.declared.End.{End}
 use Rattle.ring.specs.declared.End.TheVariants.{Front, Back}
@@ -39,8 +36,8 @@ pub place_none : (c : Channel) → c.first < c.capacity → place c 0 ≡ c.firs
 place_none c h = ap (◌% c.capacity) (add-zero c.first) ∙ mod-eq_of_lt h
 
 -- the place after a place
-pub place-next : (c : Channel) (j : ℕ) → (place c j + 1) % c.capacity ≡ place c (j + 1)
-place-next c j = mod-add-mod (c.first + j) c.capacity 1 ∙ ap (◌% c.capacity) (add_assoc c.first j 1)
+pub place-next : (c : Channel) (j : ℕ) {at : ℕ} → at ≡ place c j → (at + 1) % c.capacity ≡ place c (j + 1)
+place-next c j e = rw e (mod-add-mod (c.first + j) c.capacity 1 ∙ ap (◌% c.capacity) (add_assoc c.first j 1))
 
 -- places counted from the place that lies m after the first
 pub place-lifted : (c : Channel) (m n : ℕ) → place (lifted c m) n ≡ place c (m + n)
@@ -62,7 +59,3 @@ take-back-place c h = ap (◌% c.capacity) (omega arith)
 pub put-place-lt : (e : End) (c : Channel) → 0 < c.capacity → put_place e c < c.capacity
 put-place-lt Front c h = mod-lt (c.first + c.capacity - 1) h
 put-place-lt Back c h = mod-lt (c.first + c.count) h
-
-pub take-place-lt : (e : End) (c : Channel) → c.first < c.capacity → take_place e c < c.capacity
-take-place-lt Front c h = h
-take-place-lt Back c h = mod-lt (c.first + c.count - 1) (omega arith)

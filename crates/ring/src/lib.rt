@@ -2,16 +2,18 @@
 // own words, into the next channel's: nothing here touches those. A put and a take are constant time, a block is one pass over its words.
 #![tactic(auto)]
 
-ghost use Rattle.std.specs.Prelude.{◌≡◌, ◌+◌, ◌%◌, ◌<◌, ◌≤◌, min, length, get_or, set};
-ghost use Rattle.ring.specs.Ring.{Fits, Lent, place, put_place, gained, take_place, taken, grown, lifted, put_words, read_words, fitting, readable};
+ghost use Rattle.std.specs.Prelude.{◌≡◌, ◌+◌, ◌%◌, ◌<◌, ◌≤◌, length, get_or, set};
+ghost use Rattle.ring.specs.Ring.{Fits, Lent, put_place, gained, take_place, taken, grown, lifted, put_words, read_words, fitting, readable};
 
-#[derive(Clone, Copy)]
+#[derive(Clone, Copy, PartialEq, Eq)]
 pub enum End {
     Front,
     Back,
 }
 
-#[derive(Clone, Copy)]
+// That a channel fits its limits is required of each method and is no invariant of the type: a damaged record holds any channel, and rule 1 of `sound` has to
+// speak of it.
+#[derive(Clone, Copy, Default)]
 pub struct Channel {
     pub capacity: u32,
     pub first: u32,
@@ -20,157 +22,94 @@ pub struct Channel {
     pub writers: u32,
 }
 
-// A word that was taken, and the channel without it.
-#[derive(Clone, Copy)]
-pub struct Taken {
-    pub word: u32,
-    pub channel: Channel,
-}
-
-// How many words were written or read, and the channel then.
-#[derive(Clone, Copy)]
-pub struct Moved {
-    pub words: u32,
-    pub channel: Channel,
-}
-
 // ---- places: the only moduli. Every sum is below twice the capacity, so that a comparison does for a division
-
-fn wrapped(sum: u32, capacity: u32) -> u32
-    requires { sum < capacity + capacity }
-    ensures { result ≡ sum % capacity }
-{
-    if sum < capacity {
-        return sum;
+impl Channel {
+    fn wrapped(&self, sum: u32) -> u32
+        requires { sum < self.now.capacity + self.now.capacity }
+        ensures { result ≡ sum % self.now.capacity }
+    {
+        if sum < self.capacity {
+            return sum;
+        }
+        sum - self.capacity
     }
-    sum - capacity
-}
 
-fn put_place(c: Channel, end: End) -> u32
-    requires { Fits c × (c.count < c.capacity) }
-    ensures { (result ≡ put_place end c) × (result < c.capacity) }
-{
-    match end {
-        End::Front => wrapped(c.first + c.capacity - 1, c.capacity),
-        End::Back => wrapped(c.first + c.count, c.capacity),
+    fn put_place(&self, end: End) -> u32
+        requires { Fits self.now × (self.now.count < self.now.capacity) }
+        ensures { (result ≡ put_place end self.now) × (result < self.now.capacity) }
+    {
+        match end {
+            End::Front => self.wrapped(self.first + self.capacity - 1),
+            End::Back => self.wrapped(self.first + self.count),
+        }
     }
-}
 
-fn take_place(c: Channel, end: End) -> u32
-    requires { Fits c × (0 < c.count) }
-    ensures { (result ≡ take_place end c) × (result < c.capacity) }
-{
-    match end {
-        End::Front => c.first,
-        End::Back => wrapped(c.first + c.count - 1, c.capacity),
+    fn take_place(&self, end: End) -> u32
+        requires { Fits self.now × (0 < self.now.count) }
+        ensures { (result ≡ take_place end self.now) × (result < self.now.capacity) }
+    {
+        match end {
+            End::Front => self.first,
+            End::Back => self.wrapped(self.first + self.count - 1),
+        }
     }
 }
 
 // ---- one item
-
-// The channel with one item more at this end, which was put at the place `at`.
-fn with_item(c: Channel, end: End, at: u32) -> Channel
-    requires { Fits c × (c.count < c.capacity) × (at ≡ put_place end c) }
-    ensures { result ≡ gained end c }
-{
-    let mut next = c;
-    next.count = c.count + 1;
-    match end {
-        End::Front => {
-            next.first = at;
-            next
+impl Channel {
+    pub fn put(&mut self, part: &mut [u32], end: End, item: u32)
+        requires { Lent self.old (length part.old) × (self.old.count < self.old.capacity) }
+        ensures { (self.new ≡ gained end self.old) × (part.new ≡ set part.old (put_place end self.old) item) }
+    {
+        let at = self.put_place(end);
+        part[at as usize] = item;
+        if end == End::Front {
+            self.first = at;
         }
-        End::Back => next,
+        self.count += 1;
     }
-}
 
-fn without_item(c: Channel, end: End) -> Channel
-    requires { Fits c × (0 < c.count) }
-    ensures { result ≡ taken end c }
-{
-    let mut next = c;
-    next.count = c.count - 1;
-    match end {
-        End::Front => {
-            next.first = wrapped(c.first + 1, c.capacity);
-            next
+    pub fn take(&mut self, part: &[u32], end: End) -> u32
+        requires { Lent self.old (length part.now) × (0 < self.old.count) }
+        ensures { (result ≡ get_or part.now (take_place end self.old) 0) × (self.new ≡ taken end self.old) }
+    {
+        let at = self.take_place(end);
+        if end == End::Front {
+            self.first = self.wrapped(at + 1);
         }
-        End::Back => next,
+        self.count -= 1;
+        part[at as usize]
     }
 }
 
-pub fn put(part: &mut [u32], c: Channel, end: End, item: u32) -> Channel
-    requires { Lent c (length part.old) × (c.count < c.capacity) }
-    ensures { (result ≡ gained end c) × (part.new ≡ set part.old (put_place end c) item) }
-{
-    let at = put_place(c, end);
-    let i = at as usize;
-    part[i] = item;
-    with_item(c, end, at)
-}
-
-pub fn take(part: &mut [u32], c: Channel, end: End) -> Taken
-    requires { Lent c (length part.old) × (0 < c.count) }
-    ensures { (result.word ≡ get_or part.old (take_place end c) 0) × (result.channel ≡ taken end c) × (part.new ≡ part.old) }
-{
-    let i = take_place(c, end) as usize;
-    let word = part[i];
-    Taken {
-        word,
-        channel: without_item(c, end),
+// ---- blocks: how many words moved. Word by word, as `put_words` and `read_words` of specs/Ring: two copies, before and after the wrap, are no plainer
+impl Channel {
+    pub fn write_block(&mut self, part: &mut [u32], block: &[u32]) -> u32
+        requires { Lent self.old (length part.old) }
+        ensures { (result ≡ fitting self.old (length block.now)) × (self.new ≡ grown self.old result) × (part.new ≡ put_words part.old 0 self.old block.now result) }
+    {
+        let fit = ((self.capacity - self.count) as usize).min(block.len());
+        let mut at = self.wrapped(self.first + self.count);
+        for word in &block[..fit] {
+            part[at as usize] = *word;
+            at = self.wrapped(at + 1);
+        }
+        self.count += fit as u32;
+        fit as u32
     }
-}
 
-// ---- blocks
-
-fn smaller(a: usize, b: usize) -> usize
-    ensures { result ≡ min a b }
-{
-    if a <= b { a } else { b }
-}
-
-pub fn write_block(part: &mut [u32], c: Channel, block: &[u32]) -> Moved
-    requires { Lent c (length part.old) }
-    ensures { (result.words ≡ fitting c (length block.now)) × (result.channel ≡ grown c result.words) × (part.new ≡ put_words part.old 0 c block.now result.words) }
-{
-    let capacity = c.capacity;
-    let fit = smaller((capacity - c.count) as usize, block.len());
-    let mut at = wrapped(c.first + c.count, capacity);
-    let mut i: usize = 0;
-    while i < fit {
-        let j = at as usize;
-        part[j] = block[i];
-        at = wrapped(at + 1, capacity);
-        i += 1;
-    }
-    let mut next = c;
-    next.count = c.count + (fit as u32);
-    Moved {
-        words: fit as u32,
-        channel: next,
-    }
-}
-
-pub fn read_block(part: &mut [u32], c: Channel, block: &mut [u32]) -> Moved
-    requires { Lent c (length part.old) }
-    ensures { (result.words ≡ readable c (length block.old)) × (result.channel ≡ lifted c result.words) × (part.new ≡ part.old) × (block.new ≡ read_words part.old 0 c block.old result.words) }
-{
-    let capacity = c.capacity;
-    let space = block.len();
-    let there = smaller(c.count as usize, space);
-    let mut at = c.first;
-    let mut i: usize = 0;
-    while i < there {
-        let j = at as usize;
-        block[i] = part[j];
-        at = wrapped(at + 1, capacity);
-        i += 1;
-    }
-    let mut next = c;
-    next.first = at;
-    next.count = c.count - (there as u32);
-    Moved {
-        words: there as u32,
-        channel: next,
+    pub fn read_block(&mut self, part: &[u32], block: &mut [u32]) -> u32
+        requires { Lent self.old (length part.now) }
+        ensures { (result ≡ readable self.old (length block.old)) × (self.new ≡ lifted self.old result) × (block.new ≡ read_words part.now 0 self.old block.old result) }
+    {
+        let there = (self.count as usize).min(block.len());
+        let mut at = self.first;
+        for word in &mut block[..there] {
+            *word = part[at as usize];
+            at = self.wrapped(at + 1);
+        }
+        self.first = at;
+        self.count -= there as u32;
+        there as u32
     }
 }

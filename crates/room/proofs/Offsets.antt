@@ -1,12 +1,7 @@
 -- Offsets: they add up, the parts of two channels do not meet, and a channel anew of the same capacity moves none of them. Assumes nothing.
-use Prim.Native.Nat.{ℕ, zero, suc, ◌+◌, ◌-◌, ◌<◌, ◌≤◌}
-use mathlib.Core.Path.{◌≡◌, refl, sym, ap, ◌∙◌}
-use mathlib.Core.List.{List}
-use native.Mathlib.Numerals.{add-one}
-use native.Mathlib.Nat.{add-zero, add-suc}
-use native.Mathlib.Omega.{arith}
-use lib.ListN.{get_or, set, get_or-map}
-use lib.Seq.{map-set_same}
+use Rattle.std.proofs.Common.{ℕ, zero, suc, ◌+◌, ◌-◌, ◌<◌, ◌≤◌, ◌≡◌, List, length, get_or, set, take, length-take, get_or-take, refl, sym, ap, ◌∙◌, arith, add-one, add-zero, add-suc}
+use Rattle.std.proofs.Math.ListN.{get_or-map}
+use Rattle.std.proofs.Math.Seq.{map-set_same}
 use Rattle.ring.specs.declared.Channel.{Channel}
 use Rattle.ring.specs.Ring.{Fits}
 use Rattle.record.specs.Record.{no_channel}
@@ -20,7 +15,13 @@ pub offset-more : (cs : List Channel) (n : ℕ) → offset cs (n + 1) ≡ offset
 unfolding offset
 offset-more cs n = rw (add-one, offset)
 
-pub offset-mono : (cs : List Channel) (m d : ℕ) → offset cs m ≤ offset cs (m + d)
+-- the next capacity, where the channels are cut off after m
+pub offset-taken : (cs : List Channel) (m n : ℕ) → n < length (take m cs) → offset cs n + (get_or (take m cs) n no_channel).capacity ≡ offset cs (n + 1)
+offset-taken cs m n h =
+    let below : n < m = omega (arith, length-take m cs) in
+    rw (get_or-take m cs n no_channel below) (sym (offset-more cs n))
+
+offset-mono : (cs : List Channel) (m d : ℕ) → offset cs m ≤ offset cs (m + d)
 offset-mono cs m zero = rw add-zero (omega arith)
 offset-mono cs m (suc d) = rw (add-suc, ← add-one, offset-more) (omega (arith, offset-mono cs m d))
 

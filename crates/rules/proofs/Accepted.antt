@@ -1,11 +1,7 @@
 -- What acceptance gives: a sound record, a room of the right length where it is needed, the depth and the caller that the call asks for, and that
 -- what is named exists. Assumes nothing.
-use Prim.Native.Nat.{ℕ, ◌<◌}
-use mathlib.Core.Path.{◌≡◌, refl, ap, ◌∙◌}
-use mathlib.Core.Bool.{Bool, true, false, not, cond, ◌&&◌, ◌||◌, false≢true}
-use lib.Dec.{eqb}
-use borrow.Author.Tests.{eqb-true, eqb-false, leb-false, not-false}
-use native.Mathlib.Omega.{arith}
+use Rattle.std.proofs.Common.{◌≡◌, ℕ, ◌<◌, Bool, true, false, cond, not, ◌&&◌, ◌||◌, eqb, Ok, Err, ap, ◌∙◌, arith, eqb-true, leb-false}
+use Rattle.std.proofs.lemmas.Bool.{eqb-false, not-false}
 use Rattle.maps.specs.declared.Number.{Number}
 use Rattle.maps.specs.Maps.{has}
 use Rattle.record.specs.declared.Kernel.{Kernel}
@@ -18,14 +14,11 @@ use Rattle.room.specs.Room.{room_length}
 use Rattle.rules.specs.declared.Call.{Call}
 use Rattle.rules.specs.declared.Named.TheVariants as named
 use Rattle.rules.specs.declared.Refusal.{Refusal}
-use Rattle.rules.specs.declared.Verdict.{Verdict}
-use Rattle.rules.specs.declared.Verdict.TheVariants.{Accepted, Refused}
 use Rattle.rules.specs.Calls.{is_process, is_interrupt, is_finish, is_enter, is_exit, needs_room, named_by, missing}
-use Rattle.rules.specs.Refusals.{verdict, seen, not_sound, wrong_room, in_interrupt, outside_interrupt, switch_pending, idle_runs, wait_open, nothing_open, names_missing, owned_already, not_owner, too_deep}
+use Rattle.rules.specs.Refusals.{Verdict, verdict, seen, not_sound, wrong_room, in_interrupt, outside_interrupt, switch_pending, idle_runs, wait_open, nothing_open, names_missing, owned_already, not_owner, too_deep}
 
-let_by : (b : Bool) (r : Refusal) (v : Verdict) → cond b (Refused r) v ≡ Accepted → (b ≡ false) × (v ≡ Accepted)
-let_by true r v e = absurd (let z : ◌≡◌ {A = ℕ} 0 1 = cc in omega arith)
-let_by false r v e = (refl, e)
+let_by : (b : Bool) (r : Refusal) (v : Verdict) → cond b (Err r) v ≡ Ok tt → (b ≡ false) × (v ≡ Ok tt)
+let_by b r v e = grind arith
 
 pub record Passed (k : Kernel) (n : ℕ) (c : Call) : Type 0 where
   pub facts : Sound k
@@ -39,10 +32,9 @@ pub record Passed (k : Kernel) (n : ℕ) (c : Call) : Type 0 where
   pub shallow : is_enter c && eqb k.depth 8 ≡ false
 
 fits-to : (a b : Bool) → a && not b ≡ false → a ≡ true → b ≡ true
-fits-to true b e h = not-false b e
-fits-to false b e h = absurd (false≢true h)
+fits-to a b e h = grind arith
 
-pub passed : (k : Kernel) (n : ℕ) (c : Call) → verdict k n c ≡ Accepted → Passed k n c
+pub passed : (k : Kernel) (n : ℕ) (c : Call) → verdict k n c ≡ Ok tt → Passed k n c
 unfolding verdict
 passed k n c e =
     let s = seen k n c in
@@ -75,7 +67,7 @@ pub record Caller (k : Kernel) : Type 0 where
   pub user : k.running.0 < idle k
   pub awake : has k.ready k.running.0 ≡ true
 
-module _ (k : Kernel) (n : ℕ) (c : Call) (a : verdict k n c ≡ Accepted) where
+module _ (k : Kernel) (n : ℕ) (c : Call) (a : verdict k n c ≡ Ok tt) where
   pub sound-of : Sound k
   sound-of = (passed k n c a).facts
 

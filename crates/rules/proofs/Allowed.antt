@@ -1,6 +1,5 @@
 -- Rules 3 to 5 of one process as truth values: what each change of a process leaves of `allowed`. Each law is computed. Assumes nothing.
-use mathlib.Core.Path.{◌≡◌, refl, ap}
-use mathlib.Core.Bool.{Bool, true, false, not, ◌&&◌, ◌||◌}
+use Rattle.std.proofs.Common.{◌≡◌, Bool, true, false, not, ◌&&◌, ◌||◌, refl, ap}
 use Rattle.maps.proofs.Truth.{taut, mp}
 use Rattle.record.specs.Words.{implies}
 use Rattle.record.specs.Facts.{allowed}

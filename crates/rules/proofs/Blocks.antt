@@ -1,11 +1,5 @@
 -- The blocks of the calls on the whole record: each keeps all rules but the seventh. Assumes nothing.
-use Prim.Native.Nat.{ℕ, zero, suc, ◌<◌}
-use mathlib.Core.Path.{◌≡◌, refl, sym, ap, subst, ◌∙◌}
-use mathlib.Core.Bool.{true, false, not, ◌&&◌, true≢false}
-use native.Mathlib.Nat.{le_refl}
-use native.Mathlib.Omega.{arith}
-use lib.Dec.{eqb}
-use borrow.Author.Tests.{lt-ltb, ltb-true, ne_eqb}
+use Rattle.std.proofs.Common.{◌≡◌, ℕ, ◌<◌, true, false, not, ◌&&◌, eqb, sym, refl, ap, ◌∙◌, subst, true≢false, le_refl, arith, ltb-true, lt-ltb}
 use Rattle.maps.specs.Maps.{has}
 use Rattle.maps.proofs.Members.{has-zero}
 use Rattle.ring.specs.declared.Channel.{Channel}
@@ -30,8 +24,7 @@ use Rattle.rules.proofs.Chosen.{built, rebuilt}
 use Rattle.rules.proofs.Fitting.{gained-writers, taken-readers, gained-fits, taken-fits, emptied-fits}
 
 limited-is : (t : ℕ) → is_limited t ≡ not (eqb t 0)
-limited-is zero = refl
-limited-is (suc t) = lt-ltb 0 (suc t) (omega arith) ∙ sym (ap not (ne_eqb (suc t) 0 (λ e. omega arith)))
+limited-is t = grind arith
 
 module _ {k : Kernel} (c : Core k) where
   -- ---- a service changes, and the map at its place stays, or is woken

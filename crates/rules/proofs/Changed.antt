@@ -1,16 +1,11 @@
 -- One user process changes: what is left of rules 2 to 5 when it opens a wait, closes it, goes back into its map, or has its counter set.
 -- Assumes nothing.
-use Prim.Native.Nat.{ℕ, ◌-◌, ◌^◌, ◌<◌, ◌≤◌}
-use mathlib.Core.Path.{◌≡◌, refl, sym, ap, subst, ◌∙◌, fun_ext}
-use mathlib.Core.Bool.{Bool, true, false, not, cond, ◌&&◌, ◌||◌, true≢false, or-true}
-use mathlib.Core.List.{List}
-use native.Mathlib.Omega.{arith}
-use lib.Dec.{eqb}
-use lib.Bits.{bit_or, or_lt}
-use lib.ListN.{get_or, set, length, length-set}
-use lib.Seq.{get_or-set_same, get_or-set_other}
-use lib.Pow.{pow-lt}
-use borrow.Author.Tests.{eqb-true, eqb-false, ne_eqb}
+use Rattle.std.proofs.Common.{◌≡◌, ℕ, ◌-◌, ◌^◌, ◌<◌, ◌≤◌, Bool, true, false, cond, not, ◌&&◌, ◌||◌, eqb, List, length, get_or, set, bit_or, sym, refl, ap, ◌∙◌, subst, true≢false, arith, length-set, get_or-set_other, get_or-set_same, ne_eqb, eqb-true}
+use Rattle.std.proofs.Math.Path.{fun_ext}
+use Rattle.std.proofs.Math.Bool.{or-true}
+use Rattle.std.specs.Int.Bits.{or_lt}
+use Rattle.std.proofs.Math.Pow.{pow-lt}
+use Rattle.std.proofs.lemmas.Bool.{eqb-false}
 use Rattle.maps.specs.Maps.{has, minus}
 use Rattle.maps.proofs.Members.{members}
 use Rattle.maps.proofs.Bounds.{minus-lt}

@@ -1,11 +1,7 @@
 -- Rule 7, the rest being kept: choose restores it; inside an interrupt it stays, since nobody stops being ready. Assumes nothing.
-use Prim.Native.Nat.{ℕ, ◌<◌, ◌≤◌}
-use mathlib.Core.Path.{◌≡◌, refl}
-use mathlib.Core.Bool.{Bool, true, false, cond}
-use mathlib.Core.List.{List}
-use native.Mathlib.Omega.{arith}
-use lib.Dec.{eqb}
-use borrow.Author.Tests.{eq-eqb}
+use Rattle.std.proofs.Common.{◌≡◌, ℕ, ◌<◌, ◌≤◌, true, cond, eqb, List, refl, arith, eq-eqb}
+use Rattle.std.proofs.lemmas.Bool.{cond_both}
+use Rattle.maps.specs.declared.Number.{Number}
 use Rattle.maps.specs.Maps.{has, lowest}
 use Rattle.maps.proofs.Lowest.{lowest-member, lowest-below}
 use Rattle.record.specs.declared.Kernel.{Kernel}
@@ -38,18 +34,17 @@ module _ {k : Kernel} (c : Core k) where
   chosen-below : lowest k.ready < count k
   chosen-below = lowest-below (count k) k.ready (idle k) c.limits.most c.waits.ready-within c.waits.idle-ready
 
+  running-below : (cond (eqb k.setup.mode 0) (lowest_ready k) k.running).0 < count k
+  running-below = cond_both (eqb k.setup.mode 0) _ _ (λ (p : Number). p.0 < count k) (λ e. chosen-below) (λ e. c.limits.running-below)
+
   pub chosen : Sound (choose k)
   unfolding choose
   chosen = record {
-    core = record { limits = moved c.limits.depth-most (below (eqb k.setup.mode 0)) chosen-below; tables = c.tables; waits = c.waits };
+    core = record { limits = moved c.limits.depth-most running-below chosen-below; tables = c.tables; waits = c.waits };
     next-ready = lowest-member (count k) k.ready (idle k) c.limits.most c.waits.ready-within c.waits.idle-ready;
     next-lowest = λ e. refl;
     direct = λ e. rw (eq-eqb k.setup.mode 0 e);
   }
-    where
-      below : (t : Bool) → (cond t (lowest_ready k) k.running).0 < count k
-      below true = chosen-below
-      below false = c.limits.running-below
 
 -- ---- the record with other ready map, ticks, processes and services
 abbrev pub built : Kernel → ℕ → ℕ → List Process → Services → Kernel

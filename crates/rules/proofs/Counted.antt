@@ -1,13 +1,7 @@
 -- The tick: what is left of rules 2 to 5 when every user counter falls; nobody that is ready stops being so. Assumes nothing.
-use Prim.Native.Nat.{ℕ, zero, suc, ◌-◌, ◌^◌, ◌<◌, ◌≤◌}
-use mathlib.Core.Path.{◌≡◌, refl, sym, ◌∙◌}
-use mathlib.Core.Bool.{Bool, true, false, cond, ◌||◌}
-use native.Mathlib.Omega.{arith}
-use lib.Dec.{eqb}
-use lib.Bits.{bit_or, or_lt}
-use lib.ListN.{get_or}
-use lib.Pow.{pow-lt, pow_pos}
-use borrow.Author.Tests.{ne_eqb}
+use Rattle.std.proofs.Common.{◌≡◌, ℕ, zero, suc, ◌-◌, ◌^◌, ◌<◌, ◌≤◌, Bool, true, false, cond, ◌||◌, eqb, get_or, bit_or, arith, pow_pos}
+use Rattle.std.specs.Int.Bits.{or_lt}
+use Rattle.std.proofs.Math.Pow.{pow-lt}
 use Rattle.maps.specs.Maps.{has}
 use Rattle.maps.proofs.Members.{members, has-or}
 use Rattle.record.specs.Record.{no_process}
@@ -33,10 +27,7 @@ tag-has m p false = simp members
 
 -- a counter is 0 after it fell if it was 0 or 1
 falls-to-zero : (x : ℕ) → eqb (x - 1) 0 ≡ eqb x 0 || eqb x 1
-falls-to-zero zero = refl
-falls-to-zero (suc zero) = refl
-falls-to-zero (suc (suc x)) =
-    ne_eqb (suc (suc x) - 1) 0 (λ q. omega arith) ∙ sym (rw (ne_eqb (suc (suc x)) 0 (λ q. omega arith)) (ne_eqb (suc (suc x)) 1 (λ q. omega arith)))
+falls-to-zero x = grind arith
 
 module _ {n : ℕ} {real : Place → Bool} {maps : Place → ℕ} (small : n ≤ 32) where
   fallen-waits : (p : ℕ) (c : Counted) → p < n - 1 → Waits n real c.ready c.process maps

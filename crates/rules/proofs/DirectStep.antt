@@ -1,12 +1,7 @@
 -- One step of a kernel and of the direct kernel that goes with it: a call that is neither a process call nor a switch gives the same, and a process call
 -- gives the same once a switch was offered. Assumes nothing.
-use Prim.Native.Nat.{ℕ}
-use mathlib.Core.Path.{◌≡◌, refl, sym, ap, ◌∙◌}
-use mathlib.Core.Bool.{Bool, true, false, not, cond, ◌&&◌, true≢false}
-use mathlib.Core.List.{List}
-use lib.Dec.{eqb}
-use lib.ListN.{length}
-use borrow.Author.Tests.{eqb-true}
+use Rattle.std.proofs.Common.{◌≡◌, ℕ, Bool, true, false, cond, not, ◌&&◌, eqb, List, length, Ok, Err, sym, refl, ap, ◌∙◌, true≢false, eqb-true}
+use Rattle.std.proofs.lemmas.Bool.{cond_both}
 use Rattle.record.specs.declared.Kernel.{Kernel}
 use Rattle.record.specs.Sound.{sound}
 use Rattle.room.specs.Room.{room_length}
@@ -14,12 +9,10 @@ use Rattle.rules.specs.declared.Call.{Call}
 use Rattle.rules.specs.declared.Call.TheVariants.{Switch}
 use Rattle.rules.specs.declared.Refusal.{Refusal}
 use Rattle.rules.specs.declared.Refusal.TheVariants.{RoomLength, InInterrupt, NonePending}
-use Rattle.rules.specs.declared.Verdict.{Verdict}
-use Rattle.rules.specs.declared.Verdict.TheVariants.{Accepted, Refused}
 use Rattle.rules.specs.Answers.{Said, number}
 use Rattle.rules.specs.Update.{with_running}
 use Rattle.rules.specs.Calls.{is_process, is_switch, needs_room}
-use Rattle.rules.specs.Refusals.{verdict}
+use Rattle.rules.specs.Refusals.{Verdict, verdict}
 use Rattle.rules.specs.Step.{effect, settle, step}
 use Rattle.rules.specs.Deferred.{as_direct, reads_running, is_refused}
 use Rattle.rules.proofs.Cond.{branches, either}
@@ -28,14 +21,14 @@ use Rattle.rules.proofs.AsDirect.{shown, refused-shown, effect-process, effect-o
 
 -- ---- a verdict carried out
 module _ (k : Kernel) (room block : List ℕ) (c : Call) where
-  refusal-shown : (r : Refusal) → settle (as_direct k) room block c (Refused r) ≡ shown c (settle k room block c (Refused r))
+  refusal-shown : (r : Refusal) → settle (as_direct k) room block c (Err r) ≡ shown c (settle k room block c (Err r))
   refusal-shown r =
       ap (λ (a : Said). record { answer = a; kernel = as_direct k; room = room; block = block }) (refused-shown (reads_running c) k.next.0 (number r))
 
   settle-shown : (v : Verdict) → effect (as_direct k) room block c ≡ shown c (effect k room block c)
       → settle (as_direct k) room block c v ≡ shown c (settle k room block c v)
-  settle-shown Accepted e = e
-  settle-shown (Refused r) e = refusal-shown r
+  settle-shown (Ok _) e = e
+  settle-shown (Err r) e = refusal-shown r
 
 module _ (k : Kernel) (room block : List ℕ) (s : sound k ≡ true) (c : Call) where
   pub step_other : is_process c ≡ false → is_switch c ≡ false → step (as_direct k) room block c ≡ shown c (step k room block c)
@@ -79,8 +72,8 @@ module _ (k : Kernel) (room block : List ℕ) where
   switch-keeps f = go (verdict k (length room) Switch)
     where
       go : (v : Verdict) → f (as_direct (settle k room block Switch v).kernel) (settle k room block Switch v).room ≡ f (as_direct k) room
-      go Accepted = refl
-      go (Refused r) = refl
+      go (Ok _) = refl
+      go (Err r) = refl
 
   -- outside interrupts next runs then, whether it was pending or not; inside it is refused
   switched : sound k ≡ true → (step k room block Switch).kernel ≡ cond (eqb k.depth 0) (settled k) k
@@ -90,7 +83,7 @@ module _ (k : Kernel) (room block : List ℕ) where
       ∙ go (eqb k.depth 0) (eqb k.running.0 k.next.0) (λ q. running-next k (eqb-true _ _ q))
     where
       go : (b d : Bool) → (d ≡ true → k ≡ settled k)
-          → (settle k room block Switch (cond (not b) (Refused InInterrupt) (cond d (Refused NonePending) Accepted))).kernel ≡ cond b (settled k) k
+          → (settle k room block Switch (cond (not b) (Err InInterrupt) (cond d (Err NonePending) (Ok tt)))).kernel ≡ cond b (settled k) k
       go true true h = h refl
       go true false h = refl
       go false d h = refl
@@ -99,18 +92,14 @@ module _ (k : Kernel) (room block : List ℕ) where
 pub step-process : (k : Kernel) (room block other : List ℕ) → sound k ≡ true → (c : Call) → is_process c ≡ true
     → step (as_direct k) room block c ≡ shown c (step (step k room other Switch).kernel room block c)
 step-process k room block other s c p =
-    go (eqb k.depth 0) refl ∙ ap (λ (h : Kernel). shown c (step h room block c)) (sym (switched k room other s))
-  where
-    go : (b : Bool) → eqb k.depth 0 ≡ b → step (as_direct k) room block c ≡ shown c (step (cond b (settled k) k) room block c)
-    go true e = step-settled k room block s c p
-    go false e = step-inside k room block s c p e
+    cond_both (eqb k.depth 0) _ _ (λ (h : Kernel). step (as_direct k) room block c ≡ shown c (step h room block c))
+    (λ e. step-settled k room block s c p) (step-inside k room block s c p)
+    ∙ ap (λ (h : Kernel). shown c (step h room block c)) (sym (switched k room other s))
 
 -- and whoever makes it, if it is accepted, is the same
 pub same-caller : (k : Kernel) (room block other : List ℕ) → sound k ≡ true → (c : Call) → is_process c ≡ true
     → is_refused (step (as_direct k) room block c).answer ≡ false → k.next ≡ (step k room other Switch).kernel.running
 same-caller k room block other s c p a =
-    go (eqb k.depth 0) refl ∙ ap (λ (h : Kernel). h.running) (sym (switched k room other s))
-  where
-    go : (b : Bool) → eqb k.depth 0 ≡ b → k.next ≡ (cond b (settled k) k).running
-    go true e = refl
-    go false e = absurd (true≢false (sym (refused-inside (as_direct k) room block (direct-sound k s) c p e) ∙ a))
+    cond_both (eqb k.depth 0) _ _ (λ (h : Kernel). k.next ≡ h.running) (λ e. refl)
+    (λ e. absurd (true≢false (sym (refused-inside (as_direct k) room block (direct-sound k s) c p e) ∙ a)))
+    ∙ ap (λ (h : Kernel). h.running) (sym (switched k room other s))

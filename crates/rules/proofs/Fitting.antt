@@ -1,7 +1,5 @@
 -- What a put, a take, a block written or read and a flush leave of a channel's limits; the maps stay. Assumes nothing.
-use Prim.Native.Nat.{ℕ, ◌<◌}
-use mathlib.Core.Path.{◌≡◌, refl}
-use native.Mathlib.Omega.{arith}
+use Rattle.std.proofs.Common.{◌≡◌, ℕ, ◌<◌, refl, arith}
 use Rattle.ring.specs.declared.Channel.{Channel}
 use Rattle.ring.specs.declared.End.{End}
 use Rattle.ring.specs.declared.End.TheVariants.{Front, Back}

@@ -1,9 +1,6 @@
 -- A direct and a deferred kernel from fresh records, given the same calls with switches offered to the deferred one: they are in step after every list of
 -- calls, and what is seen of the calls is the same. Assumes nothing.
-use Prim.Native.Nat.{ℕ, ◌<◌}
-use mathlib.Core.Path.{◌≡◌, refl, sym, ap, subst, ◌∙◌}
-use mathlib.Core.Bool.{true, false, true≢false}
-use mathlib.Core.List.{List, [], ◌∷◌}
+use Rattle.std.proofs.Common.{◌≡◌, ℕ, ◌<◌, true, false, List, [], ◌∷◌, sym, refl, ap, ◌∙◌, subst, true≢false}
 use Rattle.maps.proofs.Lowest.{lowest-none}
 use Rattle.record.specs.declared.Kernel.{Kernel}
 use Rattle.record.specs.declared.Setup.{Setup}

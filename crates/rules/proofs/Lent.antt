@@ -1,18 +1,12 @@
 -- A call that needs no room does the same whatever the room and the block; one that is no block call does the same whatever the block. Assumes nothing.
-use Prim.Native.Nat.{ℕ}
-use mathlib.Core.Path.{◌≡◌, refl, ap, ◌∙◌}
-use mathlib.Core.Bool.{false, true≢false}
-use mathlib.Core.List.{List}
-use lib.ListN.{length}
+use Rattle.std.proofs.Common.{◌≡◌, ℕ, false, List, length, Ok, Err, refl, ap, ◌∙◌, true≢false}
 use Rattle.record.specs.declared.Kernel.{Kernel}
 use Rattle.rules.specs.declared.Call.{Call}
-use Rattle.rules.specs.declared.Call.TheVariants.{Enter, Exit, Switch, Reading, Process, Finish, Interrupt}
+use Rattle.rules.specs.declared.Call.TheVariants.{Process, Finish, Interrupt}
 use Rattle.rules.specs.declared.Request.TheVariants as request
 use Rattle.rules.specs.declared.Interrupt.TheVariants as interrupt
-use Rattle.rules.specs.declared.Verdict.{Verdict}
-use Rattle.rules.specs.declared.Verdict.TheVariants.{Accepted, Refused}
 use Rattle.rules.specs.Calls.{is_interrupt, needs_room}
-use Rattle.rules.specs.Refusals.{verdict}
+use Rattle.rules.specs.Refusals.{Verdict, verdict}
 use Rattle.rules.specs.Step.{Result, settle, step}
 
 -- ---- the room
@@ -26,29 +20,14 @@ moved r room block = record { answer = r.answer; kernel = r.kernel; room = room;
 
 settle-alone : (k : Kernel) (c : Call) (v : Verdict) (room block room' block' : List ℕ) → needs_room c ≡ false
     → settle k room block c v ≡ moved (settle k room' block' c v) room block
-settle-alone k c (Refused r) room block room' block' e = refl
-settle-alone k Enter Accepted room block room' block' e = refl
-settle-alone k Exit Accepted room block room' block' e = refl
-settle-alone k Switch Accepted room block room' block' e = refl
-settle-alone k (Reading r) Accepted room block room' block' e = refl
-settle-alone k (Process (request.Sleep t)) Accepted room block room' block' e = refl
-settle-alone k (Process (request.Wait i t)) Accepted room block room' block' e = refl
-settle-alone k (Process (request.Signal i)) Accepted room block room' block' e = refl
-settle-alone k (Process (request.Clear i)) Accepted room block room' block' e = refl
-settle-alone k (Process (request.Lock i t)) Accepted room block room' block' e = refl
-settle-alone k (Process (request.Try i)) Accepted room block room' block' e = refl
-settle-alone k (Process (request.Unlock i)) Accepted room block room' block' e = refl
-settle-alone k (Process (request.Push i x d)) Accepted room block room' block' e = absurd (true≢false e)
-settle-alone k (Process (request.Pop i d t)) Accepted room block room' block' e = absurd (true≢false e)
-settle-alone k (Process (request.Flush i)) Accepted room block room' block' e = absurd (true≢false e)
-settle-alone k (Process (request.Wake p)) Accepted room block room' block' e = refl
-settle-alone k (Process (request.Force p)) Accepted room block room' block' e = refl
-settle-alone k Finish Accepted room block room' block' e = absurd (true≢false e)
-settle-alone k (Interrupt interrupt.Tick) Accepted room block room' block' e = refl
-settle-alone k (Interrupt (interrupt.Signal i)) Accepted room block room' block' e = refl
-settle-alone k (Interrupt (interrupt.Unlock i)) Accepted room block room' block' e = refl
-settle-alone k (Interrupt (interrupt.Write i)) Accepted room block room' block' e = absurd (true≢false e)
-settle-alone k (Interrupt (interrupt.Read i)) Accepted room block room' block' e = absurd (true≢false e)
+settle-alone k c (Err r) room block room' block' e = refl
+settle-alone k (Process (request.Push i x d)) (Ok _) room block room' block' e = absurd (true≢false e)
+settle-alone k (Process (request.Pop i d t)) (Ok _) room block room' block' e = absurd (true≢false e)
+settle-alone k (Process (request.Flush i)) (Ok _) room block room' block' e = absurd (true≢false e)
+settle-alone k Finish (Ok _) room block room' block' e = absurd (true≢false e)
+settle-alone k (Interrupt (interrupt.Write i)) (Ok _) room block room' block' e = absurd (true≢false e)
+settle-alone k (Interrupt (interrupt.Read i)) (Ok _) room block room' block' e = absurd (true≢false e)
+settle-alone k c (Ok _) room block room' block' e = refl
 
 pub step-alone : (k : Kernel) (c : Call) (room block room' block' : List ℕ) → needs_room c ≡ false → step k room block c ≡ moved (step k room' block' c) room block
 unfolding step
@@ -58,14 +37,9 @@ step-alone k c room block room' block' e =
 -- ---- the block: only interrupt calls are lent one
 settle-room : (k : Kernel) (c : Call) (v : Verdict) (room block block' : List ℕ) → is_interrupt c ≡ false
     → settle k room block c v ≡ moved (settle k room block' c v) (settle k room block' c v).room block
-settle-room k c (Refused r) room block block' e = refl
-settle-room k Enter Accepted room block block' e = refl
-settle-room k Exit Accepted room block block' e = refl
-settle-room k Switch Accepted room block block' e = refl
-settle-room k (Reading r) Accepted room block block' e = refl
-settle-room k (Process r) Accepted room block block' e = refl
-settle-room k Finish Accepted room block block' e = refl
-settle-room k (Interrupt i) Accepted room block block' e = absurd (true≢false e)
+settle-room k c (Err r) room block block' e = refl
+settle-room k (Interrupt i) (Ok _) room block block' e = absurd (true≢false e)
+settle-room k c (Ok _) room block block' e = refl
 
 pub step_room : (k : Kernel) (c : Call) (room block block' : List ℕ) → is_interrupt c ≡ false
     → step k room block c ≡ moved (step k room block' c) (step k room block' c).room block

@@ -1,13 +1,10 @@
 -- A kernel with its next process running, in its own mode (as after a switch) or in direct mode: it is sound if the kernel is, and the verdicts on a call
 -- are compared. Assumes nothing.
-use Prim.Native.Nat.{ℕ, ◌≤◌, zero-le}
-use mathlib.Core.Path.{◌≡◌, refl, subst}
-use mathlib.Core.Bool.{Bool, true, false, not, cond, ◌&&◌, true≢false}
-use lib.Dec.{eqb}
+use Rattle.std.proofs.Common.{◌≡◌, ℕ, ◌≤◌, Bool, true, false, cond, not, ◌&&◌, eqb, Ok, Err, refl, subst, true≢false, zero-le}
 use Rattle.record.specs.declared.Kernel.{Kernel}
 use Rattle.record.specs.declared.Setup.{Setup}
 use Rattle.record.specs.Record.{count, services}
-use Rattle.record.specs.Places.{Place, nowhere, at_flag, at_mutex, at_readers, at_writers, real_in, map_in}
+use Rattle.record.specs.Places.{Place, nowhere, real_in, map_in}
 use Rattle.record.specs.Sound.{sound}
 use Rattle.record.specs.Facts.{Waits}
 use Rattle.record.proofs.Iff.{sound-to, sound-from}
@@ -17,7 +14,6 @@ use Rattle.rules.specs.declared.Call.TheVariants.{Enter, Exit, Switch, Reading, 
 use Rattle.rules.specs.declared.Named.{Named}
 use Rattle.rules.specs.declared.Named.TheVariants as named
 use Rattle.rules.specs.declared.Refusal.TheVariants.{RoomLength, InInterrupt, NonePending}
-use Rattle.rules.specs.declared.Verdict.TheVariants.{Accepted, Refused}
 use Rattle.rules.specs.Update.{with_running}
 use Rattle.rules.specs.Calls.{is_process, is_switch, named_by_reading, named_by_interrupt, missing, needs_room}
 use Rattle.rules.specs.Refusals.{verdict}
@@ -45,10 +41,7 @@ next_runs m k = record {
 -- a place is real whatever the mode
 real-mode : (s : Setup) (m : ℕ) (a : Place) → real_in s a ≡ real_in (with_mode s m) a
 real-mode s m nowhere = refl
-real-mode s m (at_flag i) = refl
-real-mode s m (at_mutex i) = refl
-real-mode s m (at_readers i) = refl
-real-mode s m (at_writers i) = refl
+real-mode s m a = refl
 
 module _ (k : Kernel) (s : sound k ≡ true) where
   next-runs-sound : (m : ℕ) → m ≤ 1 → sound (next_runs m k) ≡ true
@@ -94,10 +87,7 @@ module _ (k : Kernel) (s : sound k ≡ true) where
 -- what is missing is missing whatever the mode
 missing-direct : (s : Setup) (n : Named) → missing (direct s) n ≡ missing s n
 missing-direct s named.Nothing = refl
-missing-direct s (named.Flag i) = refl
-missing-direct s (named.Mutex i) = refl
-missing-direct s (named.Channel i) = refl
-missing-direct s (named.Process p) = refl
+missing-direct s n = refl
 
 module _ (k : Kernel) (n : ℕ) (s : sound k ≡ true) where
   -- with next running, on any call
@@ -118,12 +108,12 @@ module _ (k : Kernel) (n : ℕ) (s : sound k ≡ true) where
 
   -- on a process call inside an interrupt
   pub verdict-inside : (c : Call) → is_process c ≡ true → eqb k.depth 0 ≡ false
-      → verdict k n c ≡ cond (needs_room c && not (eqb n (room_length k))) (Refused RoomLength) (Refused InInterrupt)
+      → verdict k n c ≡ cond (needs_room c && not (eqb n (room_length k))) (Err RoomLength) (Err InInterrupt)
   unfolding verdict
   verdict-inside c p e = rw s (rw p (rw e refl))
 
   -- on a switch
   pub verdict-switch :
-      verdict k n Switch ≡ cond (not (eqb k.depth 0)) (Refused InInterrupt) (cond (eqb k.running.0 k.next.0) (Refused NonePending) Accepted)
+      verdict k n Switch ≡ cond (not (eqb k.depth 0)) (Err InInterrupt) (cond (eqb k.running.0 k.next.0) (Err NonePending) (Ok tt))
   unfolding verdict
   verdict-switch = rw s refl

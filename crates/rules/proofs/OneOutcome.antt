@@ -1,8 +1,5 @@
 -- Each public contract admits one outcome: two that satisfy it are equal. Assumes nothing.
-use Prim.Native.Nat.{ℕ, ◌-◌}
-use mathlib.Core.Path.{◌≡◌, refl, sym, ap, ◌∙◌}
-use mathlib.Core.List.{List, [], ◌∷◌}
-use lib.ListN.{get_or}
+use Rattle.std.proofs.Common.{◌≡◌, ℕ, ◌-◌, List, [], ◌∷◌, get_or, sym, refl, ap, ◌∙◌}
 use Rattle.record.specs.declared.Kernel.{Kernel}
 use Rattle.rules.specs.declared.Call.{Call}
 use Rattle.rules.specs.declared.Answer.{Answer}
@@ -26,20 +23,7 @@ refusal_of n = get_or refusals (n - 1) NotSound
 refusal-told : (r : Refusal) → refusal_of (number r) ≡ r
 unfolding refusal_of refusals
 refusal-told NotSound = refl
-refusal-told RoomLength = refl
-refusal-told InInterrupt = refl
-refusal-told OutsideInterrupt = refl
-refusal-told SwitchPending = refl
-refusal-told IdleRuns = refl
-refusal-told WaitOpen = refl
-refusal-told NothingOpen = refl
-refusal-told Missing = refl
-refusal-told OwnedAlready = refl
-refusal-told NotOwner = refl
-refusal-told TooDeep = refl
-refusal-told NonePending = refl
-refusal-told OutsideLimits = refl
-refusal-told Unreadable = refl
+refusal-told r = refl
 
 answer_of : Said → Answer
 answer_of done = answer.Done
@@ -51,12 +35,8 @@ answer_of (refused n) = answer.Refused (refusal_of n)
 
 answer-told : (a : Answer) → answer_of (said a) ≡ a
 unfolding answer_of
-answer-told answer.Done = refl
-answer-told answer.Waiting = refl
-answer-told answer.TimedOut = refl
-answer-told answer.Busy = refl
-answer-told (answer.Value v) = refl
 answer-told (answer.Refused r) = ap answer.Refused (refusal-told r)
+answer-told a = refl
 
 -- ---- and so the outcome
 outcome_of : Result → Outcome

@@ -1,13 +1,8 @@
 -- One slot of a service table set anew: which maps change, and what is left of the tables' limits. Assumes nothing.
-use Prim.Native.Nat.{ℕ, ◌<◌}
-use mathlib.Core.Path.{◌≡◌, refl, sym, ap, subst, ◌∙◌}
-use mathlib.Core.Bool.{Bool, true, false, cond, false≢true}
-use mathlib.Core.List.{List}
-use native.Mathlib.Omega.{arith}
-use lib.Dec.{eqb}
-use lib.ListN.{get_or, set, length, length-set}
-use lib.Seq.{get_or-set_same, get_or-set_other}
-use borrow.Author.Tests.{eqb-true, eqb-false, lt-ltb, ltb-true}
+use Rattle.std.proofs.Common.{◌≡◌, ℕ, ◌<◌, Bool, true, false, cond, eqb, List, length, get_or, set, sym, refl, ap, ◌∙◌, subst, arith, length-set, get_or-set_other, get_or-set_same, ltb-true, lt-ltb, eqb-true}
+use Rattle.std.proofs.Math.Bool.{false≢true}
+use Rattle.std.proofs.lemmas.Bool.{eqb-false}
+use Rattle.std.proofs.lemmas.Grind.{get_or-set_at}
 use Rattle.ring.specs.declared.Channel.{Channel}
 use Rattle.ring.specs.Ring.{Fits}
 use Rattle.record.specs.declared.Kernel.{Kernel}
@@ -38,18 +33,10 @@ put-at {maps} {maps'} {b} {m} put = put.puts b ∙ ap (λ (t : Bool). cond t m (
 
 -- ---- one slot is set
 set-cond : {A : Type 0} (g : A → ℕ) (l : List A) (i j : ℕ) (x d : A) → i < length l → g (get_or (set l i x) j d) ≡ cond (eqb i j) (g x) (g (get_or l j d))
-set-cond g l i j x d h = go (eqb i j) refl
-  where
-    go : (t : Bool) → eqb i j ≡ t → g (get_or (set l i x) j d) ≡ cond t (g x) (g (get_or l j d))
-    go true e = ap (λ (n : ℕ). g (get_or (set l i x) n d)) (sym (eqb-true i j e)) ∙ ap g (get_or-set_same l i x d h)
-    go false e = ap g (get_or-set_other l i j x d (λ q. eqb-false i j e (sym q)))
+set-cond g l i j x d h = grind (arith, get_or-set_at, get_or-set_other)
 
 set-kept : {A : Type 0} (g : A → ℕ) (l : List A) (i j : ℕ) (x d : A) → i < length l → g x ≡ g (get_or l i d) → g (get_or (set l i x) j d) ≡ g (get_or l j d)
-set-kept g l i j x d h e = set-cond g l i j x d h ∙ go (eqb i j) refl
-  where
-    go : (t : Bool) → eqb i j ≡ t → cond t (g x) (g (get_or l j d)) ≡ g (get_or l j d)
-    go true q = e ∙ ap (λ (n : ℕ). g (get_or l n d)) (eqb-true i j q)
-    go false q = refl
+set-kept g l i j x d h e = grind (arith, get_or-set_at, get_or-set_other)
 
 each_set : {A : Type 0} (P : A → Type 0) (n : ℕ) (l : List A) (d : A) → ((j : ℕ) → j < n → P (get_or l j d))
     → (i : ℕ) (x : A) → i < length l → P x → (j : ℕ) → j < n → P (get_or (set l i x) j d)
@@ -75,43 +62,33 @@ module _ (v : Services) (i : ℕ) where
   put-flag x h = record { puts = go }
     where
       go : (a : Place) → map_in (flag_set v i x) a ≡ cond (same_place (at_flag i) a) x.waiters (map_in v a)
-      go nowhere = refl
       go (at_flag j) = set-cond (λ y. y.waiters) v.flag i j x no_flag h
-      go (at_mutex j) = refl
-      go (at_readers j) = refl
-      go (at_writers j) = refl
+      go a = refl
 
   put-mutex : (x : Mutex) → i < length v.mutex → Put (map_in v) (map_in (mutex_set v i x)) (at_mutex i) x.waiters
   put-mutex x h = record { puts = go }
     where
       go : (a : Place) → map_in (mutex_set v i x) a ≡ cond (same_place (at_mutex i) a) x.waiters (map_in v a)
-      go nowhere = refl
-      go (at_flag j) = refl
       go (at_mutex j) = set-cond (λ y. y.waiters) v.mutex i j x no_mutex h
-      go (at_readers j) = refl
-      go (at_writers j) = refl
+      go a = refl
 
   put-readers : (x : Channel) → i < length v.channel → x.writers ≡ (get_or v.channel i no_channel).writers
       → Put (map_in v) (map_in (channel_set v i x)) (at_readers i) x.readers
   put-readers x h e = record { puts = go }
     where
       go : (a : Place) → map_in (channel_set v i x) a ≡ cond (same_place (at_readers i) a) x.readers (map_in v a)
-      go nowhere = refl
-      go (at_flag j) = refl
-      go (at_mutex j) = refl
       go (at_readers j) = set-cond (λ y. y.readers) v.channel i j x no_channel h
       go (at_writers j) = set-kept (λ y. y.writers) v.channel i j x no_channel h e
+      go a = refl
 
   put-writers : (x : Channel) → i < length v.channel → x.readers ≡ (get_or v.channel i no_channel).readers
       → Put (map_in v) (map_in (channel_set v i x)) (at_writers i) x.writers
   put-writers x h e = record { puts = go }
     where
       go : (a : Place) → map_in (channel_set v i x) a ≡ cond (same_place (at_writers i) a) x.writers (map_in v a)
-      go nowhere = refl
-      go (at_flag j) = refl
-      go (at_mutex j) = refl
       go (at_readers j) = set-kept (λ y. y.readers) v.channel i j x no_channel h e
       go (at_writers j) = set-cond (λ y. y.writers) v.channel i j x no_channel h
+      go a = refl
 
 -- ---- the tables' limits then
 module _ {s : Setup} {v : Services} (t : Tables s v) (i : ℕ) where

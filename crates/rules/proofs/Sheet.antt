@@ -1,7 +1,7 @@
 -- The bench sheet's starred cases hold, by computing them. Where one fails, `first_fault rows ≡ at n i` computes instead: line i of case n is the
 -- first that fails. Assumes nothing.
-use mathlib.Core.Path.{◌≡◌, refl}
-use lib.Count.{count_trailing_zeros}
+use Rattle.std.proofs.Common.{◌≡◌, refl}
+use Rattle.std.specs.Int.Count.{count_trailing_zeros}
 use Rattle.maps.specs.Maps.{has}
 use Rattle.ring.specs.Ring.{put_words}
 use Rattle.record.specs.Words.{all_below}

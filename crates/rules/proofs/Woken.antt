@@ -1,15 +1,9 @@
 -- Waking: some of those in the map at a place that aren't ready become ready and leave that map. What is left of rules 2 to 5; and that wake all and
 -- wake one are such. Assumes nothing.
-use Prim.Native.Nat.{ℕ, ◌^◌, ◌<◌, ◌≤◌}
-use mathlib.Core.Path.{◌≡◌, refl, sym, ap, ◌∙◌}
-use mathlib.Core.Bool.{Bool, true, false, not, cond, ◌&&◌, true≢false, or-true, or-false, and-true, and-false}
-use mathlib.Core.List.{List}
-use native.Mathlib.Nat.{lt_of_lt_of_le}
-use lib.Dec.{eqb}
-use lib.Bits.{bit_or, or_lt}
-use lib.ListN.{get_or}
-use lib.Pow.{pow_mono}
-use borrow.Author.Tests.{not-true}
+use Rattle.std.proofs.Common.{◌≡◌, ℕ, ◌^◌, ◌<◌, ◌≤◌, Bool, true, false, cond, not, ◌&&◌, eqb, List, get_or, bit_or, sym, refl, ap, ◌∙◌, true≢false, lt_of_lt_of_le, pow_mono}
+use Rattle.std.proofs.Math.Bool.{or-true, or-false, and-true, and-false}
+use Rattle.std.specs.Int.Bits.{or_lt}
+use Rattle.std.proofs.lemmas.Bool.{not-true}
 use Rattle.maps.specs.Maps.{has, minus, lowest, lowest_bit, unready}
 use Rattle.maps.proofs.Truth.{and_l, and_r}
 use Rattle.maps.proofs.Members.{has-or, has-minus}

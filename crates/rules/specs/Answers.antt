@@ -1,6 +1,7 @@
 -- What a call answers, in the document's words: Done, Waiting, TimedOut, Busy, a value, or a refusal by its number (01, Calls and their steps; Refusal
 -- numbers).
-use Rattle.std.specs.Prelude.{ℕ}
+use Rattle.std.specs.Prelude.{ℕ, List, ◌++◌, codes}
+use Rattle.std.specs.Fmt.{decimal}
 use Rattle.rules.specs.declared.Answer.{Answer}
 use Rattle.rules.specs.declared.Answer.TheVariants as answer
 use Rattle.rules.specs.declared.Refusal.{Refusal}
@@ -39,3 +40,12 @@ said answer.TimedOut = timed_out
 said answer.Busy = busy
 said (answer.Value v) = value v
 said (answer.Refused r) = refused (number r)
+
+-- how an answer prints
+abbrev pub printed : Said → List ℕ
+printed done = codes "done"
+printed waiting = codes "waiting"
+printed timed_out = codes "timedout"
+printed busy = codes "busy"
+printed (value v) = codes "value " ++ decimal v
+printed (refused n) = codes "refused " ++ decimal n

@@ -1,11 +1,9 @@
 -- What a call is: its kind, what it names, whether it needs the room (01, Calls and their steps; Refusal numbers).
-use Rattle.std.specs.Prelude.{◌-◌, Bool, true, false, List, leb, get_or}
+use Rattle.std.specs.Prelude.{◌-◌, Bool, true, false, List, leb, get_or, Option, None}
 use Rattle.maps.specs.declared.Number.{Number}
 use Rattle.maps.specs.Maps.{number_of}
 use Rattle.record.specs.declared.Setup.{Setup}
 use Rattle.record.specs.declared.Mutex.{Mutex}
-use Rattle.record.specs.declared.Owner.{Owner}
-use Rattle.record.specs.declared.Owner.TheVariants as owner
 use Rattle.record.specs.Record.{no_mutex}
 use Rattle.rules.specs.declared.Call.{Call}
 use Rattle.rules.specs.declared.Call.TheVariants.{Enter, Exit, Switch, Reading, Process, Finish, Interrupt}
@@ -224,9 +222,9 @@ frees Finish = false
 frees (Interrupt i) = interrupt_frees i
 
 -- the owner of the mutex that a call names; nobody where it names none
-abbrev pub owner_named : List Mutex → Named → Owner
-owner_named mutex named.Nothing = owner.Nobody
-owner_named mutex (named.Flag i) = owner.Nobody
+abbrev pub owner_named : List Mutex → Named → Option Number
+owner_named mutex named.Nothing = None
+owner_named mutex (named.Flag i) = None
 owner_named mutex (named.Mutex i) = (get_or mutex i no_mutex).owner
-owner_named mutex (named.Channel i) = owner.Nobody
-owner_named mutex (named.Process p) = owner.Nobody
+owner_named mutex (named.Channel i) = None
+owner_named mutex (named.Process p) = None

@@ -1,13 +1,12 @@
 -- What each accepted call does (01, Calls and their steps), but finish.
-use Rattle.std.specs.Prelude.{ℕ, zero, suc, ◌+◌, ◌-◌, ◌^◌, ◌%◌, Bool, false, cond, ◌||◌, List, ltb, eqb, get_or, set, length}
+use Rattle.std.specs.Prelude.{ℕ, zero, suc, ◌+◌, ◌-◌, ◌^◌, ◌%◌, Bool, false, cond, ◌||◌, List, ltb, eqb, get_or, set, length, Option, None, Some}
+use Rattle.maps.specs.declared.Number.{Number}
 use Rattle.std.specs.Int.Bits.{bit_or}
 use Rattle.ring.specs.declared.Channel.{Channel}
 use Rattle.ring.specs.declared.End.{End}
 use Rattle.ring.specs.Ring.{put_place, gained, take_place, taken, grown, lifted, put_words, read_words, fitting, readable}
 use Rattle.record.specs.declared.Kernel.{Kernel}
 use Rattle.record.specs.declared.Process.{Process}
-use Rattle.record.specs.declared.Owner.{Owner}
-use Rattle.record.specs.declared.Owner.TheVariants as owner
 use Rattle.record.specs.declared.Wait.TheVariants as wait
 use Rattle.record.specs.Record.{no_process, process_at, flag_at, mutex_at, channel_at, idle}
 use Rattle.record.specs.Places.{at_flag, at_mutex, at_readers, at_writers}
@@ -44,9 +43,9 @@ abbrev pub exited : Kernel → Kernel
 exited k = cond (eqb k.depth 1) (choose (with_depth k (k.depth - 1))) (with_depth k (k.depth - 1))
 
 -- the owner's number, n when free
-abbrev pub owner_number : ℕ → Owner → ℕ
-owner_number n owner.Nobody = n
-owner_number n (owner.Process p) = p.0
+abbrev pub owner_number : ℕ → Option Number → ℕ
+owner_number n None = n
+owner_number n (Some p) = p.0
 
 -- a flag's state is 1 on, 0 off
 abbrev pub state_number : Bool → ℕ
@@ -83,7 +82,7 @@ signalled k f =
 -- ---- mutexes
 -- the caller owns it
 unfoldable pub locked : Kernel → ℕ → Kernel
-locked k i = with_mutex k i (record { owner = owner.Process k.running; waiters = (mutex_at k i).waiters })
+locked k i = with_mutex k i (record { owner = Some k.running; waiters = (mutex_at k i).waiters })
 
 -- lock: if free, the caller owns it, Done; else opens a wait. Try: the same, but Busy in place of waiting
 abbrev pub locked_or : Kernel → ℕ → ℕ → Outcome
@@ -94,7 +93,7 @@ tried k i = cond (is_free (mutex_at k i).owner) (ends Done (locked k i)) (ends B
 
 -- unlock: free, then wake one
 unfoldable pub unlocked : Kernel → ℕ → Kernel
-unlocked k i = with_mutex (with_ready k (waking_one k (at_mutex i)).ready) i (record { owner = owner.Nobody; waiters = (waking_one k (at_mutex i)).map })
+unlocked k i = with_mutex (with_ready k (waking_one k (at_mutex i)).ready) i (record { owner = None; waiters = (waking_one k (at_mutex i)).map })
 
 -- ---- channels
 abbrev pub has_room : Channel → Bool

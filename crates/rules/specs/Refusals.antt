@@ -1,9 +1,8 @@
 -- The refusal table (01, Refusal numbers): rows 1 to 13 in the document's order. Where several apply the lowest number is answered. A condition takes
 -- numbers, waits and the call, never the whole record.
-use Rattle.std.specs.Prelude.{ℕ, ◌-◌, Bool, true, false, not, cond, ◌&&◌, ◌||◌, List, [], ◌∷◌, eqb}
+use Rattle.std.specs.Prelude.{ℕ, ◌-◌, Bool, true, false, not, cond, ◌&&◌, ◌||◌, List, [], ◌∷◌, eqb, Option, None, Some, ⊤, Result, Ok, Err}
+use Rattle.maps.specs.declared.Number.{Number}
 use Rattle.record.specs.declared.Kernel.{Kernel}
-use Rattle.record.specs.declared.Owner.{Owner}
-use Rattle.record.specs.declared.Owner.TheVariants as owner
 use Rattle.record.specs.Record.{wait_of}
 use Rattle.record.specs.Places.{is_open}
 use Rattle.record.specs.Sound.{sound}
@@ -12,26 +11,28 @@ use Rattle.rules.specs.declared.Call.{Call}
 use Rattle.rules.specs.declared.Refusal.{Refusal}
 use Rattle.rules.specs.declared.Refusal.TheVariants.{NotSound, RoomLength, InInterrupt, OutsideInterrupt, SwitchPending, IdleRuns, WaitOpen, NothingOpen, Missing, OwnedAlready, NotOwner, TooDeep, NonePending}
 use Rattle.rules.specs.declared.Seen.{Seen}
-use Rattle.rules.specs.declared.Verdict.{Verdict}
-use Rattle.rules.specs.declared.Verdict.TheVariants.{Accepted, Refused}
 use Rattle.rules.specs.Calls.{is_process, is_interrupt, is_finish, is_enter, is_exit, is_switch, named_by, missing, needs_room, takes, unlocks, frees, owner_named}
 
-abbrev pub is_free : Owner → Bool
-is_free owner.Nobody = true
-is_free (owner.Process p) = false
+abbrev pub is_free : Option Number → Bool
+is_free None = true
+is_free (Some p) = false
 
-abbrev pub owned_by : Owner → ℕ → Bool
-owned_by owner.Nobody p = false
-owned_by (owner.Process q) p = eqb q.0 p
+abbrev pub owned_by : Option Number → ℕ → Bool
+owned_by None p = false
+owned_by (Some q) p = eqb q.0 p
 
 -- a row: when it applies, and what it answers
 pub record Row : Type 0 where
   pub holds : Bool
   pub answer : Refusal
 
+-- accepted, or refused
+abbrev pub Verdict : Type 0
+Verdict = Result ⊤ Refusal
+
 abbrev pub first : List Row → Verdict
-first [] = Accepted
-first (r ∷ rs) = cond r.holds (Refused r.answer) (first rs)
+first [] = Ok tt
+first (r ∷ rs) = cond r.holds (Err r.answer) (first rs)
 
 -- what the table looks at of the record k, with a room of so many words
 abbrev pub seen : Kernel → ℕ → Call → Seen

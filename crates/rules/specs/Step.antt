@@ -1,5 +1,5 @@
 -- One step of the kernel: record, room, block and call in; answer, record, room and block out. Refused: all as they came. Beside it, sequences of calls.
-use Rattle.std.specs.Prelude.{ℕ, ◌+◌, List, [], ◌∷◌, length}
+use Rattle.std.specs.Prelude.{ℕ, ◌+◌, List, [], ◌∷◌, length, Ok, Err}
 use Rattle.maps.specs.declared.Number.{Number}
 use Rattle.record.specs.declared.Kernel.{Kernel}
 use Rattle.rules.specs.declared.Call.{Call}
@@ -10,13 +10,11 @@ use Rattle.rules.specs.declared.Interrupt.{Interrupt as InterruptT}
 use Rattle.rules.specs.declared.Interrupt.TheVariants as interrupt
 use Rattle.rules.specs.declared.Answer.TheVariants.{Done, Value}
 use Rattle.rules.specs.declared.Outcome.{Outcome}
-use Rattle.rules.specs.declared.Verdict.{Verdict}
-use Rattle.rules.specs.declared.Verdict.TheVariants as verdict
 use Rattle.rules.specs.Answers.{Said, value, refused, number, said}
 use Rattle.rules.specs.Update.{with_depth, with_running}
 use Rattle.rules.specs.Blocks.{caller_row}
 use Rattle.rules.specs.Calls.{numbered}
-use Rattle.rules.specs.Refusals.{verdict as verdict_on}
+use Rattle.rules.specs.Refusals.{Verdict, verdict as verdict_on}
 use Rattle.rules.specs.Effects.{Effect, answered, in_place, ends, exited, value_read, slept, cleared, waited, signalled, locked_or, tried, unlocked, pushed_or, popped_or, flushed, forced, woken, ticked, words_written, written, room_written, words_read, read_out, block_read}
 use Rattle.rules.specs.Finish.{finished}
 
@@ -78,8 +76,8 @@ effect k room block Finish = keeping_block block (finished k room (caller_row k)
 effect k room block (Interrupt i) = interrupted k room block i
 
 abbrev pub settle : Kernel → List ℕ → List ℕ → Call → Verdict → Result
-settle k room block c verdict.Accepted = effect k room block c
-settle k room block c (verdict.Refused r) = record { answer = refused (number r); kernel = k; room = room; block = block }
+settle k room block c (Ok _) = effect k room block c
+settle k room block c (Err r) = record { answer = refused (number r); kernel = k; room = room; block = block }
 
 unfoldable pub step : Kernel → List ℕ → List ℕ → Call → Result
 step k room block c = settle k room block c (verdict_on k (length room) c)

@@ -1,9 +1,12 @@
-// The calls of the kernel and their answers, as types (01, Calls and their steps). No code: what each call does is said in specs/.
+// The calls of the kernel and their answers, as types (01, Calls and their steps). What each call does is said in specs/; the only code is how a refusal
+// and an answer become a number and a text.
 #![tactic(auto)]
 
 use maps::{Number, Tag};
-use record::{Kernel, Owner, Setup, Wait};
+use record::{Kernel, Setup, Wait};
 use ring::End;
+
+mod printed;
 
 // A process can be named by its number or by its tag (6.2.1).
 #[derive(Clone, Copy)]
@@ -61,10 +64,10 @@ pub enum Call {
     Interrupt(Interrupt),
 }
 
-// Numbered 1 to 15 in document 01.
-#[derive(Clone, Copy)]
+// In the order of their numbers, 1 to 15 (01, Refusal numbers).
+#[derive(Clone, Copy, Debug, PartialEq, Eq)]
 pub enum Refusal {
-    NotSound,
+    NotSound = 1,
     RoomLength,
     InInterrupt,
     OutsideInterrupt,
@@ -81,12 +84,11 @@ pub enum Refusal {
     Unreadable,
 }
 
-#[derive(Clone, Copy)]
-pub enum Verdict {
-    Accepted,
-    Refused(Refusal),
-}
+// What the refusal table says of a call.
+pub type Verdict = Result<(), Refusal>;
 
+// A refusal is one of document 01's six answers, and `said` of specs/Answers has a word for each of the six: so no Result, whose Err would leave out the
+// record, which goes with every answer (`Outcome`).
 #[derive(Clone, Copy)]
 pub enum Answer {
     Done,
@@ -104,7 +106,7 @@ pub struct Outcome {
 }
 
 // What the refusal table looks at: soundness, whether the room has the right length, the setup, depth, running, next, the caller's open wait, and the owner
-// of the mutex that is named.
+// of the mutex that is named. Sound and fits are what rows 1 and 2 of `table` look at, and no flags of the fields beside them.
 #[derive(Clone, Copy)]
 pub struct Seen {
     pub sound: bool,
@@ -114,10 +116,10 @@ pub struct Seen {
     pub running: Number,
     pub next: Number,
     pub wait: Wait,
-    pub owner: Owner,
+    pub owner: Option<Number>,
 }
 
-// What a call names.
+// What a call names. Nothing is a variant and no Option around four, since `missing` and `owner_named` of specs/Calls answer for each of the five.
 #[derive(Clone, Copy)]
 pub enum Named {
     Nothing,

@@ -1,15 +1,9 @@
 -- Decimals in: digits read one after the other, the first one past `most` ending it. Decimals out: their digits one by one. And a number's digits read back
 -- as that number. Assumes nothing.
-use Prim.Native.Nat.{ℕ, zero, suc, ◌+◌, ◌-◌, ◌*◌, ◌/◌, ◌%◌, ◌^◌, ◌≤◌, ◌<◌}
-use mathlib.Core.Path.{◌≡◌, refl, sym, ap, ◌∙◌}
-use mathlib.Core.Bool.{Bool, true, false, cond, not, ◌&&◌, ◌||◌, false≢true}
-use mathlib.Core.List.{List, [], ◌∷◌, ◌++◌}
-use native.Mathlib.Omega.{arith}
-use native.Mathlib.Nat.{div-lt_iff_lt-mul, pow-succ', mul_comm}
-use lib.Dec.{ltb, leb, eqb}
-use lib.ListN.{length, get_or, length-append}
-use borrow.Author.Tests.{lt-ltb, le-ltb, le-leb, lt-leb, eq-eqb, ne_eqb, ltb-true, ltb-false, leb-false}
-use Rattle.text.specs.declared.numbers.Parsed.TheVariants.{Value, Bad}
+use Rattle.std.proofs.Common.{ℕ, zero, suc, ◌+◌, ◌-◌, ◌*◌, ◌/◌, ◌%◌, ◌^◌, ◌≤◌, ◌<◌, ◌≡◌, refl, sym, ap, ◌∙◌, Bool, true, false, cond, not, ◌&&◌, ◌||◌, List, [], ◌∷◌, ◌++◌, arith, div-lt_iff_lt-mul, ltb, leb, eqb, length, get_or, length-append, lt-ltb, le-ltb, le-leb, eq-eqb, ne_eqb, ltb-true, ltb-false, leb-false, None, Some}
+use Rattle.std.proofs.Math.Bool.{and-false, or-true}
+use Rattle.std.proofs.Math.Nat.{mul_comm, pow-succ'}
+use Rattle.std.proofs.lemmas.Bool.{and_parts, false≢true, lt-leb}
 use Rattle.text.specs.Decimals.{is_digit, all_digits, onwards, value_of, is_plain, is_number, read, reaches, digit, spelled, digits}
 
 -- ---- in
@@ -19,15 +13,11 @@ unfolding onwards
 onwards-grows v [] = omega arith
 onwards-grows v (b ∷ s) = omega (arith, onwards-grows (v * 10 + (b - 48)) s)
 
-and-false : (x : Bool) → (x && false) ≡ false
-and-false true = refl
-and-false false = refl
-
-pub reaches-no-digit : (most v b : ℕ) (s : List ℕ) → is_digit b ≡ false → reaches most v (b ∷ s) ≡ Bad
+pub reaches-no-digit : (most v b : ℕ) (s : List ℕ) → is_digit b ≡ false → reaches most v (b ∷ s) ≡ None
 unfolding all_digits
 reaches-no-digit most v b s e = rw e
 
-pub reaches-past : (most v b : ℕ) (s : List ℕ) → most < v * 10 + (b - 48) → reaches most v (b ∷ s) ≡ Bad
+pub reaches-past : (most v b : ℕ) (s : List ℕ) → most < v * 10 + (b - 48) → reaches most v (b ∷ s) ≡ None
 unfolding onwards
 reaches-past most v b s h =
     let e : leb (onwards (v * 10 + (b - 48)) s) most ≡ false = lt-leb (onwards (v * 10 + (b - 48)) s) most (omega (arith, onwards-grows (v * 10 + (b - 48)) s)) in
@@ -37,7 +27,7 @@ pub reaches-on : (most v b : ℕ) (s : List ℕ) → is_digit b ≡ true → rea
 unfolding all_digits onwards
 reaches-on most v b s e = rw e
 
-pub reaches_end : (most v : ℕ) → v ≤ most → reaches most v [] ≡ Value v
+pub reaches_end : (most v : ℕ) → v ≤ most → reaches most v [] ≡ Some v
 unfolding all_digits onwards
 reaches_end most v h = rw (le-leb _ _ h)
 
@@ -92,11 +82,12 @@ length-below (suc k) n h = by (ltb n 10) refl (length-below k (n / 10))
 pub digits-fit : (n : ℕ) → n < 4294967296 → length (digits n) ≤ 10
 digits-fit n h = length-below 9 n (omega arith)
 
--- ---- a number's digits read back
-or-true : (x : Bool) → (x || true) ≡ true
-or-true true = refl
-or-true false = refl
+-- for searches: how many digits a number has at most, and what its last is
+pub ruleset digits_within = (digits-fit)
 
+pub ruleset digits_by_last = (digits-small, digits_more)
+
+-- ---- a number's digits read back
 all_snoc : (s : List ℕ) (d : ℕ) → d < 10 → all_digits s ≡ true → all_digits (s ++ (digit d ∷ [])) ≡ true
 unfolding all_digits
 all_snoc [] d h e = rw (le-leb 48 (48 + d) (omega arith), le-leb (48 + d) 57 (omega arith))
@@ -152,7 +143,7 @@ no_zero : (n : ℕ) (t : Bool) → ltb n 10 ≡ t → Reads n → (eqb (length (
 no_zero n true e r = rw (eq-eqb (length (digits n)) 1 (length-small n (ltb-true n 10 e)))
 no_zero n false e r = rw (ne_eqb (get_or (digits n) 0 0) 48 (r.plain (omega (arith, ltb-false n 10 e)))) (or-true (eqb (length (digits n)) 1))
 
-pub read-digits : (most n : ℕ) → n ≤ most → read most (digits n) ≡ Value n
+pub read-digits : (most n : ℕ) → n ≤ most → read most (digits n) ≡ Some n
 read-digits most n h =
     let r = reads-below (suc n) n (omega arith) in
     let some : eqb (length (digits n)) 0 ≡ false = ne_eqb (length (digits n)) 0 (λ e. omega (arith, r.some)) in
@@ -161,17 +152,17 @@ read-digits most n h =
 
 -- ---- what a parsed text is
 module _ (most : ℕ) (s : List ℕ) where
-  pub read-value : (n : ℕ) → read most s ≡ Value n → (is_number most s ≡ true) × (value_of s ≡ n)
+  pub read-value : (n : ℕ) → read most s ≡ Some n → (is_number most s ≡ true) × (value_of s ≡ n)
   read-value n e = by (is_number most s) refl e
     where
-      by : (t : Bool) → is_number most s ≡ t → cond t (Value (value_of s)) Bad ≡ Value n → (is_number most s ≡ true) × (value_of s ≡ n)
+      by : (t : Bool) → is_number most s ≡ t → cond t (Some (value_of s)) None ≡ Some n → (is_number most s ≡ true) × (value_of s ≡ n)
       by true h e = (h, cc)
       by false h e = absurd (let z : ◌≡◌ {A = ℕ} 0 1 = cc in omega arith)
 
-  pub read-bad : read most s ≡ Bad → is_number most s ≡ false
+  pub read-bad : read most s ≡ None → is_number most s ≡ false
   read-bad e = by (is_number most s) refl e
     where
-      by : (t : Bool) → is_number most s ≡ t → cond t (Value (value_of s)) Bad ≡ Bad → is_number most s ≡ false
+      by : (t : Bool) → is_number most s ≡ t → cond t (Some (value_of s)) None ≡ None → is_number most s ≡ false
       by true h e = absurd (let z : ◌≡◌ {A = ℕ} 0 1 = cc in omega arith)
       by false h e = h
 
@@ -185,12 +176,10 @@ module _ (most : ℕ) (s : List ℕ) where
 
   -- a number is no empty text
   pub number-some : is_number most s ≡ true → (eqb (length s) 0 ≡ false) × (is_plain s ≡ true) × (leb (value_of s) most ≡ true)
-  number-some e = (by (eqb (length s) 0) e, (both_of (is_plain s) e).0, (both_of (is_plain s) e).1)
+  number-some e =
+      let parts = and_parts (is_plain s) (leb (value_of s) most) e in
+      (by (eqb (length s) 0) e, parts.0, parts.1)
     where
-      both_of : (t : Bool) → (t && leb (value_of s) most) ≡ true → (t ≡ true) × (leb (value_of s) most ≡ true)
-      both_of true e = (refl, e)
-      both_of false e = absurd (false≢true e)
-
       by : (t : Bool) → (not t && (eqb (length s) 1 || not (eqb (get_or s 0 0) 48)) && all_digits s && leb (value_of s) most) ≡ true → t ≡ false
       by true e = absurd (false≢true e)
       by false e = refl

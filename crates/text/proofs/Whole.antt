@@ -1,18 +1,10 @@
 -- The scanner finds exactly the records of the input, each cut to 65 bytes: what has come of a record under way stands in front of the first record of what
 -- is still to come. Assumes nothing.
-use Prim.Native.Nat.{ℕ, ◌+◌, ◌-◌, ◌≤◌, ◌<◌, min}
-use mathlib.Core.Path.{◌≡◌, refl, sym, ap, ◌∙◌}
-use mathlib.Core.Bool.{Bool, true, false, cond, not, ◌&&◌, false≢true}
-use mathlib.Core.List.{List, [], ◌∷◌, ◌++◌, map, append_assoc, append-nil}
-use native.Mathlib.Omega.{arith}
-use native.Mathlib.Numerals.{add-one}
-use lib.Dec.{ltb}
-use lib.ListN.{length, take, set, length-append, length-set}
-use lib.Seq.{take_all, take-take, take-append-le, take-suc-set}
-use borrow.Author.Tests.{ltb-true, ltb-false, eq-eqb, ne_eqb, eqb-true}
-use Rattle.text.specs.declared.scanner.Scan.{Scan}
+use Rattle.std.proofs.Common.{ℕ, zero, suc, ◌-◌, ◌≡◌, refl, sym, ap, ◌∙◌, Bool, true, false, cond, not, ◌&&◌, List, [], ◌∷◌, ◌++◌, map, append_assoc, append-nil, arith, length, take, length-append, length-take, take-take, ne_eqb, eqb-true}
+use Rattle.std.proofs.lemmas.Bool.{and_parts, false≢true}
+use Rattle.text.specs.declared.scanner.Scanner.{Scanner}
 use Rattle.text.specs.Records.{is_cr, is_lf, led, records}
-use Rattle.text.specs.Scan.{ends, grown, kept, nothing, Found, found, after, last, cut}
+use Rattle.text.specs.Scan.{cut, nothing, ends, without_cr, grown, Found, found, after, last}
 
 -- ---- bytes in front of the first record
 abbrev leds : List ℕ → List (List ℕ) → List (List ℕ)
@@ -84,109 +76,76 @@ module _ (cur : List ℕ) (cr : Bool) (u : Under cur cr) (b : ℕ) where
     ended = λ c. (cur, ap (λ (x : ℕ). cur ++ (x ∷ [])) (eqb-true b 13 c), under-ended (eqb-true b 13 c));
   }
 
--- ---- and how the scanner holds it: its bytes counted to 66, the first 65 of them in the line
-pub record Holds (cur : List ℕ) (s : Scan) (line : List ℕ) : Type 0 where
+-- ---- and how the scanner holds it: the first 66 bytes of it
+pub record Holds (cur : List ℕ) (s : Scanner) : Type 0 where
   pub under : Under cur s.cr
-  pub size : length line ≡ 65
-  pub count : s.len ≡ min (length cur) 66
-  pub bytes : take 65 cur ≡ take s.len line
+  pub bytes : s.line ≡ take 66 cur
 
-pub holds-nothing : (line : List ℕ) → length line ≡ 65 → Holds [] nothing line
-holds-nothing line e = record { under = under-nothing; size = e; count = omega arith; bytes = refl }
+pub holds-nothing : Holds [] nothing
+holds-nothing = record { under = under-nothing; bytes = refl }
 
-module _ (cur : List ℕ) (s : Scan) (line : List ℕ) (h : Holds cur s line) where
-  -- a byte more
-  module _ (b : ℕ) where
-    longer : length (cur ++ (b ∷ [])) ≡ length cur + 1
-    longer = length-append cur (b ∷ [])
+-- a byte more
+one_more : (n : ℕ) (cur : List ℕ) (b : ℕ) → take n (take n cur ++ b ∷ []) ≡ take n (cur ++ b ∷ [])
+one_more zero cur b = refl
+one_more (suc n) [] b = refl
+one_more (suc n) (a ∷ cur) b = ap (λ (line : List ℕ). a ∷ line) (one_more n cur b)
 
-    short : s.len < 65 → take 65 (cur ++ (b ∷ [])) ≡ take (s.len + 1) (set line s.len b)
-    short l =
-        let n : length cur ≡ s.len = omega (arith, h.count) in
-        take_all 65 (cur ++ (b ∷ [])) (omega (arith, longer))
-        ∙ ap (λ (text : List ℕ). text ++ (b ∷ [])) (sym (take_all 65 cur (omega arith)) ∙ h.bytes)
-        ∙ rw add-one (sym (take-suc-set line s.len b (omega (arith, h.size))))
+-- all but the last
+all_but : (n : ℕ) (front : List ℕ) (b : ℕ) → take (length (take (suc n) (front ++ b ∷ [])) - 1) (take (suc n) (front ++ b ∷ [])) ≡ take n front
+all_but zero [] b = refl
+all_but zero (a ∷ front) b = refl
+all_but (suc n) [] b = refl
+all_but (suc n) (a ∷ front) b =
+    let line = take (suc n) (front ++ b ∷ []) in
+    let some : length (a ∷ line) - 1 ≡ suc (length line - 1) = omega (arith, length-take (suc n) (front ++ b ∷ []), length-append front (b ∷ [])) in
+    ap (λ (k : ℕ). take k (a ∷ line)) some ∙ ap (λ (text : List ℕ). a ∷ text) (all_but n front b)
 
-    long : 65 ≤ s.len → take 65 (cur ++ (b ∷ [])) ≡ take 66 line
-    long l =
-        take-append-le 65 cur (b ∷ []) (omega (arith, h.count)) ∙ h.bytes ∙ take_all s.len line (omega (arith, h.size))
-        ∙ sym (take_all 66 line (omega (arith, h.size)))
+module _ (cur : List ℕ) (s : Scanner) (h : Holds cur s) where
+  holds_more : (b : ℕ) → ends s b ≡ false → Holds (cur ++ (b ∷ [])) (grown s b)
+  holds_more b e = record {
+    under = under_more cur s.cr h.under b e;
+    bytes = ap (λ (line : List ℕ). take 66 (line ++ b ∷ [])) h.bytes ∙ one_more 66 cur b;
+  }
 
-    holds_more : ends s b ≡ false → Holds (cur ++ (b ∷ [])) (grown s b) (kept line s b)
-    holds_more e = by (ltb s.len 65) refl
-      where
-        by :
-            (t : Bool) → ltb s.len 65 ≡ t →
-            Holds (cur ++ (b ∷ [])) (record { len = cond t (s.len + 1) 66; cr = is_cr b }) (cond t (set line s.len b) line)
-        by true l = record {
-          under = under_more cur s.cr h.under b e;
-          size = length-set line s.len b ∙ h.size;
-          count = omega (arith, longer, h.count, ltb-true s.len 65 l);
-          bytes = short (ltb-true _ _ l);
-        }
-        by false l = record {
-          under = under_more cur s.cr h.under b e;
-          size = h.size;
-          count = omega (arith, longer, h.count, ltb-false s.len 65 l);
-          bytes = long (ltb-false _ _ l);
-        }
-
-  -- its end
-  holds-cut : (front : List ℕ) → cur ≡ front ++ (13 ∷ []) → take (s.len - 1) line ≡ cut front
+  holds-cut : (front : List ℕ) → cur ≡ front ++ (13 ∷ []) → without_cr s ≡ cut front
   holds-cut front e =
-      let n : length cur ≡ length front + 1 = ap length e ∙ length-append front (13 ∷ []) in
-      let k : s.len - 1 ≤ 65 = omega (arith, h.count) in
-      sym (take-take (s.len - 1) s.len line (omega arith)) ∙ ap (take (s.len - 1)) (sym h.bytes) ∙ take-take (s.len - 1) 65 cur k
-      ∙ ap (take (s.len - 1)) e ∙ take-append-le (s.len - 1) front (13 ∷ []) (omega (arith, h.count))
-      ∙ by (ltb (length front) 65) refl (omega (arith, h.count))
-    where
-      by : (t : Bool) → ltb (length front) 65 ≡ t → s.len - 1 ≡ min (length front) 65 → take (s.len - 1) front ≡ take 65 front
-      by true l m =
-          let f : length front < 65 = ltb-true (length front) 65 l in
-          take_all (s.len - 1) front (omega arith) ∙ sym (take_all 65 front (omega arith))
-      by false l m =
-          let f : 65 ≤ length front = ltb-false (length front) 65 l in
-          let n : s.len - 1 ≡ 65 = omega arith in
-          ap (λ (i : ℕ). take i front) n
+      ap (λ (line : List ℕ). take (length line - 1) line) (h.bytes ∙ ap (take 66) e) ∙ all_but 65 front 13
 
   -- the input's end
-  holds-last : last s line ≡ map cut (records (cur ++ []))
+  holds-last : last s ≡ map cut (records (cur ++ []))
   unfolding records
   holds-last = by cur refl ∙ ap (map cut) (sym (h.under.leads [] (and-not s.cr)))
     where
-      by : (text : List ℕ) → text ≡ cur → last s line ≡ map cut (leds text [])
-      by [] e = rw (eq-eqb s.len 0 (omega (arith, h.count, ap length e)))
-      by (a ∷ text) e = rw (ne_eqb s.len 0 (omega (arith, h.count, ap length e)), leds-nil a text) (ap (λ (x : List ℕ). x ∷ []) (sym h.bytes ∙ ap cut (sym e)))
+      by : (text : List ℕ) → text ≡ cur → last s ≡ map cut (leds text [])
+      by [] e = rw (h.bytes, ← e)
+      by (a ∷ text) e =
+          rw (h.bytes, ← e, leds-nil a text, ne_eqb (length (take 66 (a ∷ text))) 0 (omega (arith, length-take 66 (a ∷ text)))) (ap (λ (x : List ℕ). x ∷ []) (take-take 65 66 (a ∷ text) (omega arith)))
 
 -- ---- all of the input
-both : (a b : Bool) → (a && b) ≡ true → (a ≡ true) × (b ≡ true)
-both true b e = (refl, e)
-both false b e = absurd (false≢true e)
-
 -- what the scanner finds from here on, with what is left at the end
-abbrev pub all : List ℕ → Scan → List ℕ → List (List ℕ)
-all bs s line = (found bs s line).records ++ last (found bs s line).scan (found bs s line).line
+abbrev pub all : List ℕ → Scanner → List (List ℕ)
+all bs s = (found bs s).records ++ last (found bs s).scan
 
-whole_from : (bs cur : List ℕ) (s : Scan) (line : List ℕ) → Holds cur s line → all bs s line ≡ map cut (records (cur ++ bs))
+whole_from : (bs cur : List ℕ) (s : Scanner) → Holds cur s → all bs s ≡ map cut (records (cur ++ bs))
 unfolding found
-whole_from [] cur s line h = holds-last cur s line h
-whole_from (b ∷ bs) cur s line h =
-    by (ends s b) refl (whole_from bs [] nothing line (holds-nothing line h.size)) (λ e. whole_from bs (cur ++ (b ∷ [])) (grown s b) (kept line s b) (holds_more cur s line h b e))
+whole_from [] cur s h = holds-last cur s h
+whole_from (b ∷ bs) cur s h =
+    by (ends s b) refl (whole_from bs [] nothing holds-nothing) (λ e. whole_from bs (cur ++ (b ∷ [])) (grown s b) (holds_more cur s h b e))
   where
     F : Bool → Found
-    F t = cond t (after (take (s.len - 1) line) (found bs nothing line)) (found bs (grown s b) (kept line s b))
+    F t = cond t (after (without_cr s) (found bs nothing)) (found bs (grown s b))
 
     by :
-        (t : Bool) → ends s b ≡ t → all bs nothing line ≡ map cut (records bs) →
-        (ends s b ≡ false → all bs (grown s b) (kept line s b) ≡ map cut (records (cur ++ (b ∷ []) ++ bs))) →
-        (F t).records ++ last (F t).scan (F t).line ≡ map cut (records (cur ++ (b ∷ bs)))
+        (t : Bool) → ends s b ≡ t → all bs nothing ≡ map cut (records bs) →
+        (ends s b ≡ false → all bs (grown s b) ≡ map cut (records (cur ++ (b ∷ []) ++ bs))) →
+        (F t).records ++ last (F t).scan ≡ map cut (records (cur ++ (b ∷ bs)))
     by true e f g =
-        let c = both s.cr (is_lf b) e in
+        let c = and_parts s.cr (is_lf b) e in
         let u = h.under.ended c.0 in
-        ap (λ (rs : List (List ℕ)). take (s.len - 1) line ∷ rs) f ∙ ap (λ (text : List ℕ). text ∷ map cut (records bs)) (holds-cut cur s line h u.0 u.1)
+        ap (λ (rs : List (List ℕ)). without_cr s ∷ rs) f ∙ ap (λ (text : List ℕ). text ∷ map cut (records bs)) (holds-cut cur s h u.0 u.1)
         ∙ sym (ap (map cut) (ap (λ (x : ℕ). records (cur ++ (x ∷ bs))) (eqb-true b 10 c.1) ∙ u.2 bs))
     by false e f g = g e ∙ ap (λ (text : List ℕ). map cut (records text)) (append_assoc cur (b ∷ []) bs)
 
--- from nothing, over any line: exactly the records of the input
-pub whole : (input line : List ℕ) → length line ≡ 65 → all input nothing line ≡ map cut (records input)
-whole input line e = whole_from input [] nothing line (holds-nothing line e)
+-- from nothing: exactly the records of the input
+pub whole : (input : List ℕ) → all input nothing ≡ map cut (records input)
+whole input = whole_from input [] nothing holds-nothing

@@ -1,7 +1,5 @@
 -- Plain decimals, in and out (01, Trace program): digits only, without leading zeros.
-use Rattle.std.specs.Prelude.{ℕ, zero, suc, ◌+◌, ◌-◌, ◌*◌, ◌/◌, ◌%◌, Bool, true, cond, not, ◌&&◌, ◌||◌, List, [], ◌∷◌, ◌++◌, ltb, leb, eqb, get_or, length}
-use Rattle.text.specs.declared.numbers.Parsed.{Parsed}
-use Rattle.text.specs.declared.numbers.Parsed.TheVariants.{Value, Bad}
+use Rattle.std.specs.Prelude.{ℕ, zero, suc, ◌+◌, ◌-◌, ◌*◌, ◌/◌, ◌%◌, Bool, true, cond, not, ◌&&◌, ◌||◌, List, [], ◌∷◌, ◌++◌, ltb, leb, eqb, get_or, length, Option, None, Some}
 
 -- ---- in
 -- `0` is 48, `9` is 57
@@ -25,15 +23,15 @@ abbrev pub is_plain : List ℕ → Bool
 is_plain s = not (eqb (length s) 0) && (eqb (length s) 1 || not (eqb (get_or s 0 0) 48)) && all_digits s
 
 -- digits only, and with them after it v becomes at most `most`
-abbrev pub reaches : ℕ → ℕ → List ℕ → Parsed
-reaches most v s = cond (all_digits s && leb (onwards v s) most) (Value (onwards v s)) Bad
+abbrev pub reaches : ℕ → ℕ → List ℕ → Option ℕ
+reaches most v s = cond (all_digits s && leb (onwards v s) most) (Some (onwards v s)) None
 
 -- a plain decimal of at most `most`
 abbrev pub is_number : ℕ → List ℕ → Bool
 is_number most s = is_plain s && leb (value_of s) most
 
-abbrev pub read : ℕ → List ℕ → Parsed
-read most s = cond (is_number most s) (Value (value_of s)) Bad
+abbrev pub read : ℕ → List ℕ → Option ℕ
+read most s = cond (is_number most s) (Some (value_of s)) None
 
 -- ---- out
 abbrev pub digit : ℕ → ℕ

@@ -2,4 +2,3 @@ pub mod Ascii
 pub mod Records
 pub mod Decimals
 pub mod Scan
-pub mod Put

@@ -1,5 +1,6 @@
 -- Where records and their fields end (01, Trace program; RFC 4180 without quotes). Only CRLF ends a record; the last may lack it. Commas part the fields.
-use Rattle.std.specs.Prelude.{ℕ, suc, Bool, cond, ◌&&◌, List, [], ◌∷◌, eqb}
+use Rattle.std.specs.List.{position_or_len}
+use Rattle.std.specs.Prelude.{ℕ, Bool, cond, ◌&&◌, List, [], ◌∷◌, eqb}
 
 -- CR is 13, LF is 10, a comma is 44
 abbrev pub is_cr : ℕ → Bool
@@ -27,7 +28,10 @@ unfoldable pub fields : List ℕ → List (List ℕ)
 fields [] = [] ∷ []
 fields (a ∷ rest) = cond (is_comma a) ([] ∷ fields rest) (led a (fields rest))
 
--- how many bytes stand before the first comma
-unfoldable pub before : List ℕ → ℕ
-before [] = 0
-before (a ∷ rest) = cond (is_comma a) 0 (suc (before rest))
+-- how many bytes stand before the first mark, or all of them where there is none
+abbrev pub up_to : ℕ → List ℕ → ℕ
+up_to mark s = position_or_len (λ b. eqb b mark) s
+
+-- and before the first comma
+abbrev pub before : List ℕ → ℕ
+before s = up_to 44 s

@@ -1,60 +1,48 @@
--- The scanner: records found in bytes that come one at a time or a chunk at a time. Its state is a few numbers; the bytes of the record under way stand in
--- a lent line of 65 bytes: one more than a readable record has, for a CR that may turn out to be the first half of its end.
-use Rattle.std.specs.Prelude.{ℕ, ◌+◌, ◌-◌, Bool, true, false, cond, ◌&&◌, List, [], ◌∷◌, ltb, eqb, set, take}
-use Rattle.text.specs.declared.scanner.Scan.{Scan}
-use Rattle.text.specs.declared.scanner.Fed.{Fed}
+-- The scanner: records found in bytes that come one at a time or a chunk at a time. Of the record under way it has the first 66 bytes: one more
+-- than the 65 that a record is cut to, for a CR that may turn out to be the first half of its end.
+use Rattle.std.specs.Prelude.{ℕ, ◌-◌, Bool, false, cond, ◌&&◌, Option, Some, None, List, [], ◌∷◌, ◌++◌, eqb, length, take}
+use Rattle.text.specs.declared.scanner.Scanner.{Scanner}
 use Rattle.text.specs.Records.{is_cr, is_lf}
+
+-- a record as the scanner gives it: over 64 bytes it is cut to 65, which is still over 64
+abbrev pub cut : List ℕ → List ℕ
+cut text = take 65 text
 
 -- ---- one byte
 -- nothing of a record yet
-abbrev pub nothing : Scan
-nothing = record { len = 0; cr = false }
+abbrev pub nothing : Scanner
+nothing = record { line = []; cr = false }
 
 -- a CR and then this LF end the record
-abbrev pub ends : Scan → ℕ → Bool
+abbrev pub ends : Scanner → ℕ → Bool
 ends s b = s.cr && is_lf b
 
--- any other byte is one more of the record: counted up to 66, kept while the line has room
-abbrev pub grown : Scan → ℕ → Scan
-grown s b = record { len = cond (ltb s.len 65) (s.len + 1) 66; cr = is_cr b }
+-- the record then: all but the CR
+abbrev pub without_cr : Scanner → List ℕ
+without_cr s = take (length s.line - 1) s.line
 
-abbrev pub kept : List ℕ → Scan → ℕ → List ℕ
-kept line s b = cond (ltb s.len 65) (set line s.len b) line
+-- any other byte is one more of the record, and is kept while there is room
+abbrev pub grown : Scanner → ℕ → Scanner
+grown s b = record { line = take 66 (s.line ++ b ∷ []); cr = is_cr b }
 
--- at the end `len` is the record's length: the CR before the LF was counted. It is 65 for every record that is longer than 64
-abbrev pub fed : Scan → ℕ → Fed
-fed s b = cond (ends s b) (record { ended = true; scan = record { len = s.len - 1; cr = false } }) (record { ended = false; scan = grown s b })
+abbrev pub fed : Scanner → ℕ → Scanner
+fed s b = cond (ends s b) nothing (grown s b)
 
-abbrev pub fed_line : List ℕ → Scan → ℕ → List ℕ
-fed_line line s b = cond (ends s b) line (kept line s b)
-
--- ---- up to the end of a record, or of the bytes
-pub record Advanced : Type 0 where
-  pub fed : Fed
-  pub line : List ℕ
-  pub rest : List ℕ
-
-unfoldable pub advanced : List ℕ → Scan → List ℕ → Advanced
-advanced [] s line = record { fed = record { ended = false; scan = s }; line = line; rest = [] }
-advanced (b ∷ bs) s line = cond (ends s b) (record { fed = fed s b; line = line; rest = bs }) (advanced bs (grown s b) (kept line s b))
+abbrev pub ended : Scanner → ℕ → Option (List ℕ)
+ended s b = cond (ends s b) (Some (without_cr s)) None
 
 -- ---- a chunk: the records that end in it, each cut to 65 bytes, and what is under way then
 pub record Found : Type 0 where
   pub records : List (List ℕ)
-  pub scan : Scan
-  pub line : List ℕ
+  pub scan : Scanner
 
 abbrev pub after : List ℕ → Found → Found
-after text f = record { records = text ∷ f.records; scan = f.scan; line = f.line }
+after text f = record { records = text ∷ f.records; scan = f.scan }
 
-unfoldable pub found : List ℕ → Scan → List ℕ → Found
-found [] s line = record { records = []; scan = s; line = line }
-found (b ∷ bs) s line = cond (ends s b) (after (take (s.len - 1) line) (found bs nothing line)) (found bs (grown s b) (kept line s b))
+unfoldable pub found : List ℕ → Scanner → Found
+found [] s = record { records = []; scan = s }
+found (b ∷ bs) s = cond (ends s b) (after (without_cr s) (found bs nothing)) (found bs (grown s b))
 
 -- what is under way when the input ends is the last record, if it is any
-abbrev pub last : Scan → List ℕ → List (List ℕ)
-last s line = cond (eqb s.len 0) [] (take s.len line ∷ [])
-
--- a record as the scanner keeps it: over 64 bytes it is cut to 65, which is still over 64
-abbrev pub cut : List ℕ → List ℕ
-cut text = take 65 text
+abbrev pub last : Scanner → List (List ℕ)
+last s = cond (eqb (length s.line) 0) [] (cut s.line ∷ [])

@@ -1,4 +1,4 @@
-// Bytes in and out: records that CRLF ends, their fields, plain decimals, and text put into a lent slice.
+// Bytes in and out: records that CRLF ends, their fields, plain decimals, and text put after text in a fixed room.
 #![tactic(auto)]
 
 pub mod fields;

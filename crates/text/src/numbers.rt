@@ -1,57 +1,31 @@
 // Plain decimals in.
-ghost use Rattle.std.specs.Prelude.{◌≡◌, ◌≤◌};
+ghost use Rattle.std.specs.Prelude.{◌≡◌};
 ghost use Rattle.text.specs.Decimals.{read, reaches};
 
-#[derive(Clone, Copy)]
-pub enum Parsed {
-    Value(u32),
-    Bad,
-}
-
-fn wide(x: u8) -> u64
-    ensures { result ≡ x }
-{
-    x as u64
-}
-
-// All of `s` as digits, or Bad where a byte is none or the number passes `most`.
-fn scan(s: &[u8], most: u64) -> Parsed
-    requires { most ≤ 4294967295 }
+// All of `s` as digits, or None where a byte is none or the number passes `most`.
+fn scan(s: &[u8], most: u32) -> Option<u32>
     ensures { result ≡ reaches most 0 s.now }
 {
-    let mut v: u64 = 0;
-    let mut i = 0;
-    while i < s.len() {
-        let b = s[i];
-        if b < 48 {
-            return Parsed::Bad;
+    let mut v = 0u64;
+    let limit = u64::from(most);
+    for b in s {
+        if !b.is_ascii_digit() {
+            return None;
         }
-        if 57 < b {
-            return Parsed::Bad;
+        v = v * 10 + u64::from(*b - b'0');
+        if limit < v {
+            return None;
         }
-        let next = v * 10 + wide(b - 48);
-        if most < next {
-            return Parsed::Bad;
-        }
-        v = next;
-        i += 1;
     }
-    Parsed::Value(v as u32)
+    Some(v as u32)
 }
 
 // A plain decimal of at most `most`.
-pub fn parse(s: &[u8], most: u64) -> Parsed
-    requires { most ≤ 4294967295 }
+pub fn parse(s: &[u8], most: u32) -> Option<u32>
     ensures { result ≡ read most s.now }
 {
-    if s.len() == 0 {
-        return Parsed::Bad;
+    match s {
+        [] | [b'0', _, ..] => None,
+        _ => scan(s, most),
     }
-    if s.len() == 1 {
-        return scan(s, most);
-    }
-    if s[0] == 48 {
-        return Parsed::Bad;
-    }
-    scan(s, most)
 }

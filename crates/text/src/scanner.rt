@@ -1,95 +1,51 @@
-// The record scanner. Its state goes by value and is small; the bytes of the record under way stand in a line that the caller lends.
-ghost use Rattle.std.specs.Prelude.{◌≡◌, ◌-◌, ◌≤◌, ◌<◌, length, take, drop};
-ghost use Rattle.text.specs.Scan.{fed, fed_line, grown, kept, advanced};
+// The record scanner: bytes in, one at a time, and a record out at each CRLF.
+ghost use Rattle.std.specs.Prelude.{◌≡◌, ◌≤◌, IfSome, length};
+ghost use Rattle.text.specs.Scan.{nothing, fed, ended, cut};
 
-// `len` counts the record's bytes, a CR too, and stops at 66; `cr` says that the last one is a CR.
-#[derive(Clone, Copy)]
-pub struct Scan {
-    pub len: usize,
-    pub cr: bool,
+use crate::output::Out;
+use std::mem;
+
+// The first 66 bytes of the record under way: one more than it is cut to, for a CR that may turn out to be the first half of its end.
+// `cr` says that the last byte of all is a CR.
+#[derive(Drop)]
+pub struct Scanner {
+    line: Out<66>,
+    cr: bool,
 }
 
-#[derive(Clone, Copy)]
-pub struct Fed {
-    pub ended: bool,
-    pub scan: Scan,
-}
-
-// `at` is the place past the last byte that was taken.
-#[derive(Clone, Copy)]
-pub struct Taken {
-    pub at: usize,
-    pub fed: Fed,
-}
-
-fn before_cr(len: usize) -> usize
-    ensures { result ≡ len - 1 }
-{
-    if len == 0 {
-        return 0;
-    }
-    len - 1
-}
-
-fn keep(line: &mut [u8; 65], len: usize, cr: bool, b: u8) -> Scan
-    ensures { (result ≡ grown (record { len = len; cr = cr }) b) × (line.new ≡ kept line.old (record { len = len; cr = cr }) b) }
-{
-    if len < 65 {
-        line[len] = b;
-        return Scan {
-            len: len + 1,
-            cr: b == 13,
-        };
-    }
-    Scan {
-        len: 66,
-        cr: b == 13,
-    }
-}
-
-pub fn feed(line: &mut [u8; 65], s: Scan, b: u8) -> Fed
-    ensures { (result ≡ fed s b) × (line.new ≡ fed_line line.old s b) }
-{
-    if s.cr & (b == 10) {
-        let len = before_cr(s.len);
-        return Fed {
-            ended: true,
-            scan: Scan { len, cr: false },
-        };
-    }
-    let scan = keep(line, s.len, s.cr, b);
-    Fed { ended: false, scan }
-}
-
-// Takes bytes from place `at` on until a record ends or the input does.
-pub fn advance(input: &[u8], at: usize, line: &mut [u8; 65], s: Scan) -> Taken
-    requires { at < length input.now }
-    ensures further { (at < result.at) × (result.at ≤ length input.now) }
-    ensures scanned { advanced (drop at input.now) s line.old ≡ record { fed = result.fed; line = line.new; rest = drop result.at input.now } }
-{
-    let mut i = at;
-    let mut scan = s;
-    while i < input.len() {
-        let f = feed(line, scan, input[i]);
-        i += 1;
-        if f.ended {
-            return Taken { at: i, fed: f };
+impl Scanner {
+    pub fn new() -> Self
+        ensures { result ≡ nothing }
+    {
+        Scanner {
+            line: Out::new(),
+            cr: false,
         }
-        scan = f.scan;
     }
-    Taken {
-        at: i,
-        fed: Fed { ended: false, scan },
-    }
-}
 
-// The bytes that are kept of a record of `len` bytes.
-pub fn kept_of(line: &[u8; 65], len: usize) -> &[u8]
-    ensures { (result.now ≡ take len line.now) × (length result.now ≤ 65) }
-{
-    let all: &[u8] = line;
-    if 65 < len {
-        return all;
+    // Takes a byte, and answers the record that it ends, cut to 65 bytes.
+    pub fn feed(&mut self, b: u8) -> Option<Out<66>>
+        ensures answer { result ≡ ended self.old b }
+        ensures within { IfSome result (λ text. length text ≤ 65) }
+        ensures scanner { self.new ≡ fed self.old b }
+    {
+        if self.cr && b == b'\n' {
+            let mut record = mem::replace(&mut self.line, Out::new());
+            record.pop();
+            self.cr = false;
+            return Some(record);
+        }
+        self.line.keep(b);
+        self.cr = b == b'\r';
+        None
     }
-    &all[0..len]
+
+    // What has come of the record under way, cut to 65 bytes.
+    pub fn rest(&self) -> &[u8]
+        ensures bytes { result.now ≡ cut self.now.line }
+        ensures within { length result.now ≤ 65 }
+    {
+        let line = self.line.written();
+        if line.len() <= 65 { line } else { &line[..65] }
+    }
 }

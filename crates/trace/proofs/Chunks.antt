@@ -1,33 +1,23 @@
--- The trace, record by record and chunk by chunk, is the trace of the whole input, wherever that is cut. Assumes nothing.
-use Prim.Native.Nat.{ℕ, ◌+◌, ◌<◌}
-use mathlib.Core.Path.{◌≡◌, refl, sym, ap, ◌∙◌}
-use mathlib.Core.Bool.{Bool, true, false, ◌||◌}
-use mathlib.Core.List.{List, [], ◌∷◌, ◌++◌, map, flatten, append_assoc, append-nil}
-use native.Mathlib.Omega.{arith}
-use lib.ListN.{length, take, drop, length-take}
-use lib.Seq.{take_all, sets}
-use lib.Dec.{leb}
-use borrow.Author.Tests.{eq-eqb, ne_eqb, lt-leb, leb-true, leb-false}
+-- The trace, byte by byte and chunk by chunk, is the trace of the whole input, wherever that is cut. Assumes nothing.
+use Rattle.std.proofs.Common.{ℕ, ◌+◌, ◌<◌, ◌≡◌, refl, sym, ap, ◌∙◌, arith, Bool, true, false, ◌||◌, List, [], ◌∷◌, ◌++◌, map, length, take, drop, get_or, eqb, leb, length-take, take_all, take-suc, add-one, append_assoc, append-nil, true≢false, min, cond, Option, None, Some, eq-eqb, ne_eqb, eqb-true, leb-true, leb-false}
+use mathlib.Core.List.{flatten}
+use Rattle.std.proofs.Math.Bool.{or-false}
+use Rattle.std.proofs.lemmas.Option.{none-some}
+use borrow.Author.Tests.{lt-leb}
 use Rattle.rules.specs.Step.{State}
-use Rattle.text.specs.declared.scanner.Scan.{Scan}
-use Rattle.text.specs.declared.scanner.Fed.{Fed}
+use Rattle.text.specs.declared.scanner.Scanner.{Scanner}
 use Rattle.text.specs.Records.{records}
-use Rattle.text.specs.Scan.{nothing, Advanced, advanced, Found, found, last, cut}
-use Rattle.text.proofs.Scan.{thence, found-advanced, found-append, advanced-open}
-use Rattle.text.specs.Put.{Put}
-use Rattle.text.proofs.Put.{put_then, put_as}
+use Rattle.text.specs.Scan.{nothing, ends, without_cr, fed, ended, Found, found, last, cut}
+use Rattle.text.proofs.Scan.{found-append}
 use Rattle.text.proofs.Whole.{whole}
 use Rattle.trace.specs.declared.Command.{Command}
+use Rattle.trace.specs.declared.records.Trace.{Trace}
 use Rattle.trace.specs.Words.{command_of}
 use Rattle.trace.specs.Lines.{header}
 use Rattle.trace.specs.Output.{did, line_of, after, lines_of, start, output}
-use Rattle.trace.specs.Chunks.{Now, begin, unheaded, some, after_all, passed, lines_for, found_in, ran, text_of, last_text, written, turned, turned_text}
+use Rattle.trace.specs.Chunks.{begin, unheaded, some, after_all, passed, lines_for, found_in, ran, text_of, last_text, written}
 
 -- ---- records one after the other
-or-false : (b : Bool) → (b || false) ≡ b
-or-false true = refl
-or-false false = refl
-
 unheaded-nil : (b : Bool) → unheaded b [] ≡ []
 unheaded-nil true = refl
 unheaded-nil false = refl
@@ -55,133 +45,150 @@ lines-append s (x ∷ xs) ys =
     ∙ sym (append_assoc (line_of s x) (lines_of (after s x) xs) (lines_of (after_all (after s x) xs) ys))
 
 -- some records and then others
-module _ (n : Now) (scan scan' : Scan) (line line' : List ℕ) (xs ys : List (List ℕ)) where
-  passed-append : passed n scan line (xs ++ ys) ≡ passed (passed n scan' line' xs) scan line ys
-  passed-append = rw (some-append n.begun xs ys, unheaded-append n.begun xs ys, after-append)
+module _ (t : Trace) (scan scan' : Scanner) (xs ys : List (List ℕ)) where
+  passed-append : passed t scan (xs ++ ys) ≡ passed (passed t scan' xs) scan ys
+  passed-append = rw (some-append t.begun xs ys, unheaded-append t.begun xs ys, after-append)
 
-  lines-for-append : lines_for n (xs ++ ys) ≡ lines_for n xs ++ lines_for (passed n scan' line' xs) ys
-  lines-for-append = rw (unheaded-append n.begun xs ys, lines-append)
+  lines-for-append : lines_for t (xs ++ ys) ≡ lines_for t xs ++ lines_for (passed t scan' xs) ys
+  lines-for-append = rw (unheaded-append t.begun xs ys, lines-append)
 
 -- none
-module _ (n : Now) where
-  passed_none : (scan : Scan) (line : List ℕ) → passed n scan line [] ≡ record { scan = scan; line = line; begun = n.begun; state = n.state }
+module _ (t : Trace) where
+  passed_none : (scan : Scanner) → passed t scan [] ≡ record { scanner = scan; begun = t.begun; bench = t.bench }
   unfolding after_all
-  passed_none scan line = rw (unheaded-nil n.begun, or-false n.begun)
+  passed_none scan = rw (unheaded-nil t.begun, or-false t.begun)
 
-  lines-for-none : lines_for n [] ≡ []
+  lines-for-none : lines_for t [] ≡ []
   unfolding lines_of
-  lines-for-none = rw (unheaded-nil n.begun)
+  lines-for-none = rw (unheaded-nil t.begun)
 
-  -- the end of a chunk that is used up
-  pub ran-none : ran [] n ≡ n
+  pub ran-none : ran [] t ≡ t
   unfolding found
-  ran-none = passed_none n.scan n.line
+  ran-none = passed_none t.scanner
 
-  pub text-none : text_of [] n ≡ []
+  pub text-none : text_of [] t ≡ []
   unfolding found
   text-none = lines-for-none
 
-  pub put-end :
-      (rest : List ℕ) → rest ≡ [] → (first : List ℕ) (from : ℕ) (text out : List ℕ) (at : ℕ) →
-      Put first from text (at + length (text_of rest n)) (sets out at (text_of rest n)) → Put first from text at out
-  put-end rest e first from text out at q =
-      let none : text_of rest n ≡ [] = ap (λ (bs : List ℕ). text_of bs n) e ∙ text-none in
-      record { bytes = ap (sets out at) (sym none) ∙ q.bytes; place = omega (arith, ap length none, q.place) }
-
--- ---- where the scanner stops
-module _ (f : Fed) (n : Now) where
-  -- at the chunk's end
-  pub turn-open : f.ended ≡ false → turned f n ≡ record { scan = f.scan; line = n.line; begun = n.begun; state = n.state }
-  turn-open e = rw e (passed_none n f.scan n.line)
-
-  pub text-open : f.ended ≡ false → turned_text f n ≡ []
-  text-open e = rw e (lines-for-none n)
-
-  module _ (e : f.ended ≡ true) where
-    -- at the header's end
-    pub turn-header : n.begun ≡ false → turned f n ≡ record { scan = nothing; line = n.line; begun = true; state = n.state }
-    unfolding after_all
-    turn-header h = rw (e, h)
-
-    pub text-header : n.begun ≡ false → turned_text f n ≡ []
-    unfolding lines_of
-    text-header h = rw (e, h)
-
-    -- at a record's end
-    pub turn-record : n.begun ≡ true → turned f n ≡ record { scan = nothing; line = n.line; begun = true; state = after n.state (take f.scan.len n.line) }
-    unfolding after_all
-    turn-record h = rw (e, h)
-
-    pub text-record : n.begun ≡ true → turned_text f n ≡ line_of n.state (take f.scan.len n.line)
-    unfolding lines_of
-    text-record h = rw (e, h) (append-nil (line_of n.state (take f.scan.len n.line)))
-
--- ---- at the end of the input: nothing is under way, or the last record
-module _ (n : Now) where
-  pub last_none : n.scan.len ≡ 0 → last_text n ≡ []
-  last_none e = rw (eq-eqb n.scan.len 0 e) (lines-for-none n)
-
-  pub last-record : (n.scan.len ≡ 0 → ⊥) → turned_text (record { ended = true; scan = n.scan }) n ≡ last_text n
-  last-record e = rw (ne_eqb n.scan.len 0 e)
-
--- ---- a chunk, from where the scanner stops first: then f, the line l, and what is left of the chunk
-module _ (n : Now) (bs rest : List ℕ) (f : Fed) (l : List ℕ) (e : advanced bs n.scan n.line ≡ record { fed = f; line = l; rest = rest }) where
-  abbrev stopped : Now
-  stopped = record { scan = n.scan; line = l; begun = n.begun; state = n.state }
-
-  found-is : found_in bs n ≡ thence (record { fed = f; line = l; rest = rest })
-  found-is = found-advanced bs n.scan n.line ∙ ap thence e
-
-  abbrev all_of : Found → Now
-  all_of g = passed n g.scan g.line g.records
-
-  used : f.ended ≡ false → rest ≡ []
-  used h = ap (λ (a : Advanced). a.rest) (sym e) ∙ advanced-open bs n.scan n.line (ap (λ (a : Advanced). a.fed.ended) e ∙ h)
-
-  pub ran-turn : ran rest (turned f stopped) ≡ ran bs n
-  ran-turn = sym (ap all_of found-is ∙ by f.ended refl)
-    where
-      by :
-          (t : Bool) → f.ended ≡ t →
-          all_of (thence (record { fed = f; line = l; rest = rest })) ≡ ran rest (turned f stopped)
-      by true h = rw h (passed-append n _ nothing _ l (take f.scan.len l ∷ []) (found rest nothing l).records)
-      by false h = rw (h, used h) (sym (ran-none (passed stopped f.scan l [])))
-
-  pub text-turn : text_of bs n ≡ turned_text f stopped ++ text_of rest (turned f stopped)
-  text-turn = ap (λ (g : Found). lines_for n g.records) found-is ∙ by f.ended refl
-    where
-      by :
-          (t : Bool) → f.ended ≡ t →
-          lines_for n (thence (record { fed = f; line = l; rest = rest })).records ≡ turned_text f stopped ++ text_of rest (turned f stopped)
-      by true h = rw h (lines-for-append n nothing nothing l l (take f.scan.len l ∷ []) (found rest nothing l).records)
-      by false h = rw (h, used h, text-none (passed stopped f.scan l [])) (sym (append-nil (lines_for n [])))
-
-  -- in a lent slice: what is put where the scanner stops, and after it what the rest of the chunk prints, is what the chunk prints
-  module _ (m : Now) (t : turned f stopped ≡ m) (old new : List ℕ) (at past : ℕ) (p : Put old at (turned_text f stopped) past new) where
-    put_rest : Put old at (text_of bs n) (past + length (text_of rest m)) (sets new past (text_of rest m))
-    put_rest =
-        put_as (text_of bs n) (ap (λ (k : Now). turned_text f stopped ++ text_of rest k) (sym t) ∙ sym text-turn) (put_then p (record { bytes = refl; place = refl }))
-
-    pub put_on :
-        (first : List ℕ) (from : ℕ) (text : List ℕ) →
-        Put first from text (at + length (text_of bs n)) (sets old at (text_of bs n)) →
-        Put first from text (past + length (text_of rest m)) (sets new past (text_of rest m))
-    put_on first from text q = record { bytes = put_rest.bytes ∙ q.bytes; place = put_rest.place ∙ q.place }
-
 -- ---- two chunks are one
-module _ (xs ys : List ℕ) (n : Now) where
+module _ (xs ys : List ℕ) (t : Trace) where
   abbrev first : Found
-  first = found_in xs n
+  first = found_in xs t
 
-  pub ran_append : ran (xs ++ ys) n ≡ ran ys (ran xs n)
+  pub ran_append : ran (xs ++ ys) t ≡ ran ys (ran xs t)
   ran_append =
-      ap (λ (g : Found). passed n g.scan g.line g.records) (found-append xs ys n.scan n.line)
-      ∙ passed-append n _ first.scan _ first.line first.records (found ys first.scan first.line).records
+      ap (λ (g : Found). passed t g.scan g.records) (found-append xs ys t.scanner)
+      ∙ passed-append t _ first.scan first.records (found ys first.scan).records
 
-  pub text-append : text_of (xs ++ ys) n ≡ text_of xs n ++ text_of ys (ran xs n)
+  pub text-append : text_of (xs ++ ys) t ≡ text_of xs t ++ text_of ys (ran xs t)
   text-append =
-      ap (λ (g : Found). lines_for n g.records) (found-append xs ys n.scan n.line)
-      ∙ lines-for-append n nothing first.scan [] first.line first.records (found ys first.scan first.line).records
+      ap (λ (g : Found). lines_for t g.records) (found-append xs ys t.scanner)
+      ∙ lines-for-append t nothing first.scan first.records (found ys first.scan).records
+
+-- ---- a byte
+abbrev got : Option (List ℕ) → List ℕ
+got None = []
+got (Some text) = text
+
+module _ (t : Trace) (b : ℕ) where
+  ended_is : {x : Bool} → ends t.scanner b ≡ x → ended t.scanner b ≡ cond x (Some (without_cr t.scanner)) None
+  ended_is e = ap (λ (x : Bool). cond x (Some (without_cr t.scanner)) None) e
+
+  -- no record ends
+  byte-open : ended t.scanner b ≡ None → (ran (b ∷ []) t ≡ record { scanner = fed t.scanner b; begun = t.begun; bench = t.bench }) × (text_of (b ∷ []) t ≡ [])
+  unfolding found
+  byte-open n = by (ends t.scanner b) refl
+    where
+      by :
+          (x : Bool) → ends t.scanner b ≡ x →
+          (ran (b ∷ []) t ≡ record { scanner = fed t.scanner b; begun = t.begun; bench = t.bench }) × (text_of (b ∷ []) t ≡ [])
+      by true e = absurd (none-some _ (sym n ∙ ended_is e))
+      by false e = rw e (passed_none t _, lines-for-none t)
+
+  module _ (text : List ℕ) (n : ended t.scanner b ≡ Some text) where
+    byte-ends : (ran (b ∷ []) t ≡ passed t (fed t.scanner b) (text ∷ [])) × (text_of (b ∷ []) t ≡ lines_for t (text ∷ []))
+    unfolding found
+    byte-ends = by (ends t.scanner b) refl
+      where
+        by :
+            (x : Bool) → ends t.scanner b ≡ x →
+            (ran (b ∷ []) t ≡ passed t (fed t.scanner b) (text ∷ [])) × (text_of (b ∷ []) t ≡ lines_for t (text ∷ []))
+        by true e =
+            let w : text ≡ without_cr t.scanner = sym (ap got (sym (ended_is e) ∙ n)) in
+            rw (e, w) (refl, refl)
+        by false e = absurd (none-some _ (sym (ended_is e) ∙ n))
+
+    -- the header does
+    byte-header : t.begun ≡ false → (ran (b ∷ []) t ≡ record { scanner = fed t.scanner b; begun = true; bench = t.bench }) × (text_of (b ∷ []) t ≡ [])
+    unfolding after_all lines_of
+    byte-header h = (byte-ends.0 ∙ rw h, byte-ends.1 ∙ rw h)
+
+    -- a record does
+    byte-record :
+        t.begun ≡ true →
+        (ran (b ∷ []) t ≡ record { scanner = fed t.scanner b; begun = true; bench = after t.bench text }) × (text_of (b ∷ []) t ≡ line_of t.bench text)
+    unfolding after_all lines_of
+    byte-record h = (byte-ends.0 ∙ rw h, byte-ends.1 ∙ rw h (append-nil (line_of t.bench text)))
+
+-- ---- the bytes of a chunk before place i, and the byte there
+module _ (input : List ℕ) (t m : Trace) (first out : List ℕ) (i : ℕ) (h : i < length input) (e : m ≡ ran (take i input) t) (p : out ≡ first ++ text_of (take i input) t) where
+  abbrev b : ℕ
+  b = get_or input i 0
+
+  one-more : take (i + 1) input ≡ take i input ++ (b ∷ [])
+  one-more = rw add-one (take-suc input i 0 h)
+
+  on : (n : Trace) (text : List ℕ) → (ran (b ∷ []) m ≡ n) × (text_of (b ∷ []) m ≡ text) → (n ≡ ran (take (i + 1) input) t) × (out ++ text ≡ first ++ text_of (take (i + 1) input) t)
+  on n text q = (
+    sym q.0 ∙ ap (ran (b ∷ [])) e ∙ sym (ap (λ (bs : List ℕ). ran bs t) one-more ∙ ran_append (take i input) (b ∷ []) t),
+    ap (λ (x : List ℕ). out ++ x) (sym q.1 ∙ ap (text_of (b ∷ [])) e) ∙ ap (λ (x : List ℕ). x ++ text_of (b ∷ []) (ran (take i input) t)) p
+        ∙ append_assoc first (text_of (take i input) t) (text_of (b ∷ []) (ran (take i input) t))
+        ∙ ap (λ (x : List ℕ). first ++ x) (sym (ap (λ (bs : List ℕ). text_of bs t) one-more ∙ text-append (take i input) (b ∷ []) t)),
+  )
+
+  pub on-open : ended m.scanner b ≡ None → (record { scanner = fed m.scanner b; begun = m.begun; bench = m.bench } ≡ ran (take (i + 1) input) t) × (out ≡ first ++ text_of (take (i + 1) input) t)
+  on-open n =
+      let q = on _ _ (byte-open m b n) in
+      (q.0, sym (append-nil out) ∙ q.1)
+
+  pub on-header :
+      (text : List ℕ) → ended m.scanner b ≡ Some text → m.begun ≡ false →
+      (record { scanner = fed m.scanner b; begun = true; bench = m.bench } ≡ ran (take (i + 1) input) t) × (out ≡ first ++ text_of (take (i + 1) input) t)
+  on-header text n f =
+      let q = on _ _ (byte-header m b text n f) in
+      (q.0, sym (append-nil out) ∙ q.1)
+
+  pub on-record :
+      (text : List ℕ) → ended m.scanner b ≡ Some text → m.begun ≡ true →
+      (record { scanner = fed m.scanner b; begun = true; bench = after m.bench text } ≡ ran (take (i + 1) input) t)
+      × (out ++ line_of m.bench text ≡ first ++ text_of (take (i + 1) input) t)
+  on-record text n f = on _ _ (byte-record m b text n f)
+
+-- ---- at the end of the input: nothing but the header, nothing under way, or the last record
+module _ (t : Trace) where
+  pub last-header : t.begun ≡ false → last_text t ≡ []
+  unfolding lines_of
+  last-header h = rw h (by (eqb (length t.scanner.line) 0) refl)
+    where
+      by : (x : Bool) → eqb (length t.scanner.line) 0 ≡ x → lines_of t.bench (drop 1 (last t.scanner)) ≡ []
+      by true e = rw e
+      by false e = rw e
+
+  module _ (text : List ℕ) (c : text ≡ cut t.scanner.line) (h : t.begun ≡ true) where
+    as-long : length text ≡ min 65 (length t.scanner.line)
+    as-long = ap length c ∙ length-take 65 t.scanner.line
+
+    pub last-none : eqb (length text) 0 ≡ true → last_text t ≡ []
+    unfolding lines_of
+    last-none e =
+        let n : length t.scanner.line ≡ 0 = omega (arith, eqb-true (length text) 0 e, as-long) in
+        rw (h, eq-eqb (length t.scanner.line) 0 n)
+
+    pub last-record : eqb (length text) 0 ≡ false → last_text t ≡ line_of t.bench text
+    unfolding lines_of
+    last-record e =
+        let n : eqb (length t.scanner.line) 0 ≡ false = ne_eqb (length t.scanner.line) 0 (λ z. absurd (true≢false (sym (eq-eqb (length text) 0 (omega (arith, as-long, z))) ∙ e))) in
+        rw (h, n, c) (append-nil (line_of t.bench (cut t.scanner.line)))
 
 -- ---- a record that is cut to 65 bytes is as unreadable as it was
 module _ (text : List ℕ) where
@@ -206,32 +213,32 @@ lines_cut s [] = refl
 lines_cut s (text ∷ texts) =
     ap (λ (x : List ℕ). x ++ lines_of (after s (cut text)) (map cut texts)) (cut_line text s (leb (length text) 65) refl)
     ∙ ap (λ (x : List ℕ). line_of s text ++ x) (lines_cut (after s (cut text)) texts)
-    ∙ ap (λ (c : Command). line_of s text ++ lines_of (did s c).state texts) (cut-command text (leb (length text) 65) refl)
+    ∙ ap (λ (c : Option Command). line_of s text ++ lines_of (did s c).state texts) (cut-command text (leb (length text) 65) refl)
 
 drop-cut : (texts : List (List ℕ)) → drop 1 (map cut texts) ≡ map cut (drop 1 texts)
 drop-cut [] = refl
 drop-cut (text ∷ texts) = refl
 
 -- ---- the whole input, in any chunks
-module _ (input line : List ℕ) (e : length line ≡ 65) where
+module _ (input : List ℕ) where
   abbrev found_all : Found
-  found_all = found_in input (begin line)
+  found_all = found_in input begin
 
-  whole-text : text_of input (begin line) ++ last_text (ran input (begin line)) ≡ lines_of start (drop 1 (records input))
+  whole-text : text_of input begin ++ last_text (ran input begin) ≡ lines_of start (drop 1 (records input))
   whole-text =
-      sym (lines-for-append (begin line) nothing found_all.scan [] found_all.line found_all.records (last found_all.scan found_all.line))
-      ∙ ap (λ (texts : List (List ℕ)). lines_of start (drop 1 texts)) (whole input line e)
+      sym (lines-for-append begin nothing found_all.scan found_all.records (last found_all.scan))
+      ∙ ap (λ (texts : List (List ℕ)). lines_of start (drop 1 texts)) (whole input)
       ∙ ap (lines_of start) (drop-cut (records input)) ∙ lines_cut start (drop 1 (records input))
 
-written_is : (chunks : List (List ℕ)) (n : Now) → written chunks n ≡ text_of (flatten chunks) n ++ last_text (ran (flatten chunks) n)
+written_is : (chunks : List (List ℕ)) (t : Trace) → written chunks t ≡ text_of (flatten chunks) t ++ last_text (ran (flatten chunks) t)
 unfolding written flatten
-written_is [] n = sym (ap (λ (x : List ℕ). x ++ last_text (ran [] n)) (text-none n) ∙ ap last_text (ran-none n))
-written_is (chunk ∷ chunks) n =
-    ap (λ (x : List ℕ). text_of chunk n ++ x) (written_is chunks (ran chunk n))
-    ∙ sym (append_assoc (text_of chunk n) (text_of (flatten chunks) (ran chunk n)) (last_text (ran (flatten chunks) (ran chunk n))))
-    ∙ sym (ap (λ (x : List ℕ). x ++ last_text (ran (chunk ++ flatten chunks) n)) (text-append chunk (flatten chunks) n)
-    ∙ ap (λ (m : Now). text_of chunk n ++ text_of (flatten chunks) (ran chunk n) ++ last_text m) (ran_append chunk (flatten chunks) n))
+written_is [] t = sym (ap (λ (x : List ℕ). x ++ last_text (ran [] t)) (text-none t) ∙ ap last_text (ran-none t))
+written_is (chunk ∷ chunks) t =
+    ap (λ (x : List ℕ). text_of chunk t ++ x) (written_is chunks (ran chunk t))
+    ∙ sym (append_assoc (text_of chunk t) (text_of (flatten chunks) (ran chunk t)) (last_text (ran (flatten chunks) (ran chunk t))))
+    ∙ sym (ap (λ (x : List ℕ). x ++ last_text (ran (chunk ++ flatten chunks) t)) (text-append chunk (flatten chunks) t)
+    ∙ ap (λ (m : Trace). text_of chunk t ++ text_of (flatten chunks) (ran chunk t) ++ last_text m) (ran_append chunk (flatten chunks) t))
 
 -- the header and then what is written chunk after chunk is the output, wherever the input is cut
-pub written-output : (chunks : List (List ℕ)) (line : List ℕ) → length line ≡ 65 → header ++ written chunks (begin line) ≡ output (flatten chunks)
-written-output chunks line e = ap (λ (x : List ℕ). header ++ x) (written_is chunks (begin line) ∙ whole-text (flatten chunks) line e)
+pub written-output : (chunks : List (List ℕ)) → header ++ written chunks begin ≡ output (flatten chunks)
+written-output chunks = ap (λ (x : List ℕ). header ++ x) (written_is chunks begin ∙ whole-text (flatten chunks))

@@ -1,5 +1,4 @@
-pub mod Tests
+pub mod Bytes
 pub mod Words
 pub mod Fields
-pub mod Recorded
 pub mod Chunks

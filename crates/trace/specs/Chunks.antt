@@ -1,25 +1,14 @@
 -- The trace chunk by chunk: how far it has come, what a chunk of the input prints, and what the end of the input prints.
-use Rattle.std.specs.Prelude.{ℕ, Bool, true, false, cond, ◌||◌, List, [], ◌∷◌, ◌++◌, take, drop}
+use Rattle.std.specs.Prelude.{ℕ, Bool, true, false, ◌||◌, List, [], ◌∷◌, ◌++◌, drop}
 use Rattle.rules.specs.Step.{State}
-use Rattle.text.specs.declared.scanner.Scan.{Scan}
-use Rattle.text.specs.declared.scanner.Fed.{Fed}
+use Rattle.text.specs.declared.scanner.Scanner.{Scanner}
 use Rattle.text.specs.Scan.{nothing, Found, found, last}
 use Rattle.trace.specs.declared.records.Trace.{Trace}
 use Rattle.trace.specs.Output.{after, lines_of, start}
 
--- ---- how far it has come: the scanner and its line, whether the header has ended, kernel and room
-pub record Now : Type 0 where
-  pub scan : Scan
-  pub line : List ℕ
-  pub begun : Bool
-  pub state : State
-
--- what a program holds of it
-abbrev pub now_of : Trace → List ℕ → List ℕ → Now
-now_of t line room = record { scan = t.scan; line = line; begun = t.begun; state = record { kernel = t.kernel; room = room } }
-
-abbrev pub begin : List ℕ → Now
-begin line = record { scan = nothing; line = line; begun = false; state = start }
+-- ---- how far it has come: the scanner, whether the header has ended, kernel and room
+abbrev pub begin : Trace
+begin = record { scanner = nothing; begun = false; bench = start }
 
 -- ---- records that have ended
 -- the first of all is the header
@@ -36,38 +25,27 @@ unfoldable pub after_all : State → List (List ℕ) → State
 after_all s [] = s
 after_all s (text ∷ texts) = after_all (after s text) texts
 
-abbrev pub passed : Now → Scan → List ℕ → List (List ℕ) → Now
-passed n scan line texts =
-    record { scan = scan; line = line; begun = n.begun || some texts; state = after_all n.state (unheaded n.begun texts) }
+abbrev pub passed : Trace → Scanner → List (List ℕ) → Trace
+passed t scanner texts = record { scanner = scanner; begun = t.begun || some texts; bench = after_all t.bench (unheaded t.begun texts) }
 
-abbrev pub lines_for : Now → List (List ℕ) → List ℕ
-lines_for n texts = lines_of n.state (unheaded n.begun texts)
+abbrev pub lines_for : Trace → List (List ℕ) → List ℕ
+lines_for t texts = lines_of t.bench (unheaded t.begun texts)
 
 -- ---- a chunk
-abbrev pub found_in : List ℕ → Now → Found
-found_in input n = found input n.scan n.line
+abbrev pub found_in : List ℕ → Trace → Found
+found_in input t = found input t.scanner
 
-abbrev pub ran : List ℕ → Now → Now
-ran input n = passed n (found_in input n).scan (found_in input n).line (found_in input n).records
+abbrev pub ran : List ℕ → Trace → Trace
+ran input t = passed t (found_in input t).scan (found_in input t).records
 
-abbrev pub text_of : List ℕ → Now → List ℕ
-text_of input n = lines_for n (found_in input n).records
+abbrev pub text_of : List ℕ → Trace → List ℕ
+text_of input t = lines_for t (found_in input t).records
 
 -- ---- the end of the input: the last record may lack its CRLF
-abbrev pub last_text : Now → List ℕ
-last_text n = lines_for n (last n.scan n.line)
+abbrev pub last_text : Trace → List ℕ
+last_text t = lines_for t (last t.scanner)
 
 -- ---- chunk after chunk, and the end
-unfoldable pub written : List (List ℕ) → Now → List ℕ
-written [] n = last_text n
-written (chunk ∷ chunks) n = text_of chunk n ++ written chunks (ran chunk n)
-
--- ---- where the scanner stops: at a record's end, or at the end of the chunk
-abbrev pub ending : Fed → List ℕ → List (List ℕ)
-ending f line = cond f.ended (take f.scan.len line ∷ []) []
-
-abbrev pub turned : Fed → Now → Now
-turned f n = passed n (cond f.ended nothing f.scan) n.line (ending f n.line)
-
-abbrev pub turned_text : Fed → Now → List ℕ
-turned_text f n = lines_for n (ending f n.line)
+unfoldable pub written : List (List ℕ) → Trace → List ℕ
+written [] t = last_text t
+written (chunk ∷ chunks) t = text_of chunk t ++ written chunks (ran chunk t)

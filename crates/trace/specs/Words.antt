@@ -1,5 +1,5 @@
 -- Which call a record is (01, Trace program): one table of words, in the document's order, each with the fields that it uses.
-use Rattle.std.specs.Prelude.{ℕ, Bool, cond, ◌&&◌, List, [], ◌∷◌, eqb, leb, length}
+use Rattle.std.specs.Prelude.{ℕ, Bool, cond, ◌&&◌, List, [], ◌∷◌, eqb, leb, length, Option, None, Some}
 use Prim.Native.String.{String}
 use Rattle.ring.specs.declared.End.TheVariants.{Front, Back}
 use Rattle.rules.specs.declared.Call.{Call}
@@ -85,22 +85,22 @@ words =
     ∷ row "readi" whole short (λ a b. lends (Interrupt (interrupt.Read a)) b 0)
     ∷ []
 
--- ---- a record is what the row says that it fits: the row's word, and fields as the row has them. Where no row fits, it is unreadable
+-- ---- a record is what the row says that it fits: the row's word, and fields as the row has them. Where no row fits, it is unreadable, which is None
 abbrev pub matches : Row → List ℕ → List ℕ → List ℕ → Bool
 matches r word a b = same word (ascii r.word) && fits r.a a && fits r.b b
 
-unfoldable pub named : List Row → List ℕ → List ℕ → List ℕ → Command
-named [] word a b = command.Unreadable
-named (r ∷ rows) word a b = cond (matches r word a b) (r.command (value_of a) (value_of b)) (named rows word a b)
+unfoldable pub named : List Row → List ℕ → List ℕ → List ℕ → Option Command
+named [] word a b = None
+named (r ∷ rows) word a b = cond (matches r word a b) (Some (r.command (value_of a) (value_of b))) (named rows word a b)
 
 -- exactly three fields
-abbrev pub of_fields : List (List ℕ) → Command
-of_fields [] = command.Unreadable
-of_fields (word ∷ []) = command.Unreadable
-of_fields (word ∷ a ∷ []) = command.Unreadable
+abbrev pub of_fields : List (List ℕ) → Option Command
+of_fields [] = None
+of_fields (word ∷ []) = None
+of_fields (word ∷ a ∷ []) = None
 of_fields (word ∷ a ∷ b ∷ []) = named words word a b
-of_fields (word ∷ a ∷ b ∷ more ∷ others) = command.Unreadable
+of_fields (word ∷ a ∷ b ∷ more ∷ others) = None
 
 -- at most 64 bytes
-abbrev pub command_of : List ℕ → Command
-command_of text = cond (leb (length text) 64) (of_fields (fields text)) command.Unreadable
+abbrev pub command_of : List ℕ → Option Command
+command_of text = cond (leb (length text) 64) (of_fields (fields text)) None

@@ -1,15 +1,15 @@
-// Which call a record is. Each word is looked for among those that use the same fields, in the table's order.
-ghost use Rattle.std.specs.Prelude.{◌≡◌, ◌≤◌, ◌%◌, length};
+// Which call a record is: the fields that are empty say which words it can have, in the table's order.
+ghost use Rattle.std.specs.Prelude.{◌≡◌, ◌≤◌, length, take, Option};
 ghost use Rattle.text.specs.Records.{before};
 ghost use Rattle.trace.specs.Words.{calls, lends, numbered as by_number, named, words, command_of};
-ghost use Rattle.trace.specs.Groups.{chosen, part, with_none, with_a, with_both, after_a};
+ghost use Rattle.trace.specs.Groups.{chosen, part, with_none, with_a, with_both};
 
 use crate::Command;
 use maps::Number;
 use ring::End;
 use rules::{Call, Interrupt, Name, Request};
-use text::fields::{end_of, same};
-use text::numbers::{Parsed, parse};
+use text::fields::end_of;
+use text::numbers::parse;
 
 // ---- commands
 
@@ -41,226 +41,163 @@ fn numbered(p: u32) -> Name
     Name::Number(Number(p))
 }
 
-// ---- no field
+// ---- words, by the fields that are not empty
+// With field a the words stand in two functions: tried in one match, and the search for its proof stops at its limit of cases.
 
-fn without_field(word: &[u8]) -> Command
+#[tactic(auto, using(crate::proofs::Bytes::words_read))]
+fn without_field(word: &[u8]) -> Option<Command>
     ensures { result ≡ with_none word.now }
 {
-    if same(word, b"direct") {
-        return Command::Direct;
+    match word {
+        b"direct" => Some(Command::Direct),
+        b"deferred" => Some(Command::Deferred),
+        b"enter" => Some(plain(Call::Enter)),
+        b"exit" => Some(plain(Call::Exit)),
+        b"tick" => Some(interrupts(Interrupt::Tick)),
+        b"switch" => Some(plain(Call::Switch)),
+        b"finish" => Some(plain(Call::Finish)),
+        _ => None,
     }
-    if same(word, b"deferred") {
-        return Command::Deferred;
-    }
-    if same(word, b"enter") {
-        return plain(Call::Enter);
-    }
-    if same(word, b"exit") {
-        return plain(Call::Exit);
-    }
-    if same(word, b"tick") {
-        return interrupts(Interrupt::Tick);
-    }
-    if same(word, b"switch") {
-        return plain(Call::Switch);
-    }
-    if same(word, b"finish") {
-        return plain(Call::Finish);
-    }
-    Command::Unreadable
 }
 
-// ---- field a
+// a is a limit or a flag.
+#[tactic(auto, using(crate::proofs::Bytes::words_read))]
+fn of_time_or_flag(word: &[u8], a: u32) -> Option<Command>
+    ensures { result ≡ chosen (part 7 4) word.now a 0 }
+{
+    match word {
+        b"sleep" => {
+            let limit = u16::try_from(a).ok()?;
+            Some(asks(Request::Sleep { limit }))
+        }
+        b"signal" => Some(asks(Request::Signal { flag: a })),
+        b"signali" => Some(interrupts(Interrupt::Signal { flag: a })),
+        b"clear" => Some(asks(Request::Clear { flag: a })),
+        _ => None,
+    }
+}
 
-fn with_a(word: &[u8], a: u32) -> Command
+// a is a mutex, a channel or a process.
+#[tactic(auto, using(crate::proofs::Bytes::words_read))]
+fn of_mutex_to_process(word: &[u8], a: u32) -> Option<Command>
+    ensures { result ≡ chosen (part 11 6) word.now a 0 }
+{
+    match word {
+        b"try" => Some(asks(Request::Try { mutex: a })),
+        b"unlock" => Some(asks(Request::Unlock { mutex: a })),
+        b"unlocki" => Some(interrupts(Interrupt::Unlock { mutex: a })),
+        b"flush" => Some(asks(Request::Flush { channel: a })),
+        b"wake" => Some(asks(Request::Wake {
+            process: numbered(a),
+        })),
+        b"force" => Some(asks(Request::Force {
+            process: numbered(a),
+        })),
+        _ => None,
+    }
+}
+
+#[tactic(auto, using(crate::proofs::Bytes::words_joined))]
+fn with_a(word: &[u8], a: u32) -> Option<Command>
     ensures { result ≡ with_a word.now a }
 {
-    if (a <= 65535) & same(word, b"sleep") {
-        let limit = limit_of(a);
-        return asks(Request::Sleep { limit });
-    }
-    if same(word, b"signal") {
-        return asks(Request::Signal { flag: a });
-    }
-    if same(word, b"signali") {
-        return interrupts(Interrupt::Signal { flag: a });
-    }
-    if same(word, b"clear") {
-        return asks(Request::Clear { flag: a });
-    }
-    if same(word, b"try") {
-        return asks(Request::Try { mutex: a });
-    }
-    with_a_more(word, a)
-}
-
-fn with_a_more(word: &[u8], a: u32) -> Command
-    ensures { result ≡ chosen (part 12 5) word.now a 0 }
-{
-    if same(word, b"unlock") {
-        return asks(Request::Unlock { mutex: a });
-    }
-    if same(word, b"unlocki") {
-        return interrupts(Interrupt::Unlock { mutex: a });
-    }
-    if same(word, b"flush") {
-        return asks(Request::Flush { channel: a });
-    }
-    if same(word, b"wake") {
-        return asks(Request::Wake {
-            process: numbered(a),
-        });
-    }
-    if same(word, b"force") {
-        return asks(Request::Force {
-            process: numbered(a),
-        });
-    }
-    Command::Unreadable
-}
-
-// ---- fields a and b
-
-fn limit_of(t: u32) -> u16
-    ensures { result ≡ t % 65536 }
-{
-    (t % 65536) as u16
+    of_time_or_flag(word, a).or_else(|| of_mutex_to_process(word, a))
 }
 
 // b is a limit.
-fn with_limit(word: &[u8], a: u32, b: u32) -> Command
-    ensures { result ≡ with_both word.now a b }
+#[tactic(auto, using(crate::proofs::Bytes::words_read))]
+fn with_limit(word: &[u8], a: u32, b: u32) -> Option<Command>
+    ensures { result ≡ chosen (part 17 4) word.now a b }
 {
-    let limit = limit_of(b);
-    if (b <= 65535) & same(word, b"wait") {
-        return asks(Request::Wait { flag: a, limit });
-    }
-    if (b <= 65535) & same(word, b"lock") {
-        return asks(Request::Lock { mutex: a, limit });
-    }
-    if (b <= 65535) & same(word, b"pop") {
-        return asks(Request::Pop {
+    let limit = u16::try_from(b).ok()?;
+    match word {
+        b"wait" => Some(asks(Request::Wait { flag: a, limit })),
+        b"lock" => Some(asks(Request::Lock { mutex: a, limit })),
+        b"pop" => Some(asks(Request::Pop {
             channel: a,
             end: End::Front,
             limit,
-        });
-    }
-    if (b <= 65535) & same(word, b"popback") {
-        return asks(Request::Pop {
+        })),
+        b"popback" => Some(asks(Request::Pop {
             channel: a,
             end: End::Back,
             limit,
-        });
+        })),
+        _ => None,
     }
-    with_item(word, a, b)
-}
-
-fn length_of(b: u32) -> u8
-    ensures { result ≡ b % 256 }
-{
-    (b % 256) as u8
 }
 
 // b is an item, or the length of a block.
-fn with_item(word: &[u8], a: u32, b: u32) -> Command
+#[tactic(auto, using(crate::proofs::Bytes::words_read))]
+fn with_item(word: &[u8], a: u32, b: u32) -> Option<Command>
     ensures { result ≡ chosen (part 21 4) word.now a b }
 {
-    if same(word, b"push") {
-        return asks(Request::Push {
+    match word {
+        b"push" => Some(asks(Request::Push {
             channel: a,
             item: b,
             end: End::Back,
-        });
-    }
-    if same(word, b"pushfront") {
-        return asks(Request::Push {
+        })),
+        b"pushfront" => Some(asks(Request::Push {
             channel: a,
             item: b,
             end: End::Front,
-        });
-    }
-    if same(word, b"writei") {
-        return Command::Call {
+        })),
+        b"writei" => Some(Command::Call {
             call: Call::Interrupt(Interrupt::Write { channel: a }),
             len: 1,
             item: b,
-        };
-    }
-    if (b <= 64) & same(word, b"readi") {
-        return Command::Call {
+        }),
+        b"readi" if b <= 64 => Some(Command::Call {
             call: Call::Interrupt(Interrupt::Read { channel: a }),
-            len: length_of(b),
+            len: b as u8,
             item: 0,
-        };
+        }),
+        _ => None,
     }
-    Command::Unreadable
+}
+
+#[tactic(auto, using(crate::proofs::Bytes::words_joined))]
+fn with_both(word: &[u8], a: u32, b: u32) -> Option<Command>
+    ensures { result ≡ with_both word.now a b }
+{
+    with_limit(word, a, b).or_else(|| with_item(word, a, b))
 }
 
 // ---- the record
 
-fn after_a(word: &[u8], a: u32, b: &[u8]) -> Command
-    ensures { result ≡ after_a word.now a b.now }
-{
-    if b.len() == 0 {
-        return with_a(word, a);
-    }
-    let p = parse(b, 4294967295);
-    match p {
-        Parsed::Value(n) => with_limit(word, a, n),
-        Parsed::Bad => Command::Unreadable,
-    }
-}
+// The greatest number that a field can be.
+const MOST: u32 = u32::MAX;
 
-fn in_fields(word: &[u8], a: &[u8], b: &[u8]) -> Command
+#[tactic(auto, using(crate::proofs::Words::by_fields))]
+fn in_fields(word: &[u8], a: &[u8], b: &[u8]) -> Option<Command>
     ensures { result ≡ named words word.now a.now b.now }
 {
-    if a.len() == 0 {
-        if b.len() == 0 {
-            return without_field(word);
-        }
-        return Command::Unreadable;
-    }
-    let p = parse(a, 4294967295);
-    match p {
-        Parsed::Value(n) => after_a(word, n, b),
-        Parsed::Bad => Command::Unreadable,
+    match (a, b) {
+        ([], []) => without_field(word),
+        ([], _) => None,
+        (_, []) => with_a(word, parse(a, MOST)?),
+        _ => with_both(word, parse(a, MOST)?, parse(b, MOST)?),
     }
 }
 
-// A record's command, and where its word ends.
-#[derive(Clone, Copy)]
-pub struct Order {
-    pub word: usize,
-    pub command: Command,
-}
-
-// The command in the three fields of a record, the first of which ends at `first`.
-fn command_after(s: &[u8], first: usize) -> Command
-    requires { first ≡ before s.now }
+// The command in the three fields of a record.
+fn command_after(s: &[u8]) -> Option<Command>
     ensures { result ≡ command_of s.now }
 {
-    let n = s.len();
-    if 64 < n {
-        return Command::Unreadable;
+    if 64 < s.len() {
+        return None;
     }
-    if n <= first {
-        return Command::Unreadable;
+    let mut fields = s.split(|b| *b == b',');
+    match (fields.next(), fields.next(), fields.next(), fields.next()) {
+        (Some(word), Some(a), Some(b), None) => in_fields(word, a, b),
+        _ => None,
     }
-    let second = end_of(s, first + 1);
-    if n <= second {
-        return Command::Unreadable;
-    }
-    let third = end_of(s, second + 1);
-    if third < n {
-        return Command::Unreadable;
-    }
-    in_fields(&s[0..first], &s[first + 1..second], &s[second + 1..n])
 }
 
-pub fn order_of(s: &[u8]) -> Order
-    ensures { (result.command ≡ command_of s.now) × (result.word ≡ before s.now) × (result.word ≤ length s.now) }
+// A record's word, and its command where it is readable.
+pub fn order_of(s: &[u8]) -> (&[u8], Option<Command>)
+    ensures { (result.0.now ≡ take (before s.now) s.now) × (length result.0.now ≤ length s.now) × (result.1 ≡ command_of s.now) }
 {
-    let word = end_of(s, 0);
-    let command = command_after(s, word);
-    Order { word, command }
+    (&s[..end_of(s, 0)], command_after(s))
 }

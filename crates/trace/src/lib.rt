@@ -8,10 +8,9 @@ pub mod lines;
 pub mod records;
 pub mod steps;
 
-// What a record asks for. A call has a block of `len` words that are all `item`.
+// What a readable record asks for. A call has a block of `len` words that are all `item`.
 #[derive(Clone, Copy)]
 pub enum Command {
-    Unreadable,
     Direct,
     Deferred,
     Call { call: Call, len: u8, item: u32 },

@@ -1,5 +1,5 @@
 -- `kernel::alone` meets its contract: a call that needs no room does the same whatever the room and the block. Assumes nothing.
-use mathlib.Core.Path.{ap, ◌∙◌}
+use Rattle.std.proofs.Common.{ap, ◌∙◌}
 use Rattle.rules.specs.Step.{Result}
 use Rattle.rules.proofs.Lent.{moved, step-alone}
 use Rattle.kernel.proofs.alone.Goals as goal

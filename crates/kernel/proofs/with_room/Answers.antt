@@ -1,5 +1,5 @@
 -- `kernel::with_room` meets its contract: a call that is no interrupt call does the same whatever the block. Assumes nothing.
-use mathlib.Core.Path.{ap, ◌∙◌}
+use Rattle.std.proofs.Common.{ap, ◌∙◌}
 use Rattle.rules.specs.Step.{Result}
 use Rattle.rules.proofs.Lent.{moved, step_room}
 use Rattle.kernel.proofs.with_room.Goals as goal

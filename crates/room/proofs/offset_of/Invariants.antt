@@ -1,11 +1,7 @@
--- `room::offset_of` meets its contract. The invariant: the sum is that of the first i capacities. Assumes nothing.
-use Prim.Native.Nat.{◌≤◌, ◌-◌, ◌*◌}
-use mathlib.Core.Path.{◌≡◌}
+-- `offset_of`: the sum is that of the capacities before c.
+use Rattle.std.proofs.Common.{◌≡◌, ◌≤◌, ◌*◌}
 use Rattle.room.specs.Room.{offset}
 use Rattle.room.proofs.offset_of.Given as goal
 
-abbrev pub invariant-loop-i : goal.invariant-loop-i
-invariant-loop-i l = (l.i ≤ l.n) × (l.sum ≡ offset l.channel l.i) × (l.sum ≤ 4294967296 * l.i)
-
-abbrev pub decreases-loop-i : goal.decreases-loop-i
-decreases-loop-i l = l.n - l.i
+abbrev pub invariant-loop-c : goal.invariant-loop-c
+invariant-loop-c l = (l.sum ≡ offset l.fn.channel l.c-index) × (l.sum ≤ 4294967296 * l.c-index)

@@ -1,15 +1,15 @@
--- `asked::split::part` meets its contract: from where it starts to the mark after it. Assumes nothing.
-use Prim.Native.Nat.{◌-◌}
-use mathlib.Core.Path.{◌≡◌, sym, ◌∙◌}
-use native.Mathlib.Omega.{arith}
-use lib.ListN.{drop}
-use Rattle.asked.specs.Parts.{up_to}
-use Rattle.asked.proofs.Parts.{first_part}
+-- `asked::split::part` meets its contract: what `split` gives at number n. Assumes nothing.
+use Rattle.std.proofs.Common.{rules, tests, ℕ, nat_eq}
+use Rattle.std.proofs.lemmas.Iterator.Consumers.{nth_from_yields_List}
+use Rattle.std.proofs.lemmas.Iterator.Splits.{YieldsList-from_slice_split}
+use Rattle.asked.proofs.Parts.{parted_split, part_or}
 use Rattle.asked.proofs.split.part.Goals as goal
 
 pub returns : goal.returns
 returns c =
     let a = c.args in
-    let from = c.start_of-from.result in
-    let e : c.end_at-end.result - from ≡ up_to a.mark (drop from a.s.now) = omega arith in
-    rw e (sym (first_part _ _) ∙ c.start_of-from.ensures.0)
+    let s = c.split.ensures in
+    rw (parted_split a.mark a.s.now, c.unwrap_or.ensures) (
+    part_or _ _ _ a.n (search rules)
+    (nth_from_yields_List _ _ a.n c.nth.ensures.ran
+    (YieldsList-from_slice_split _ (λ (b : ℕ). nat_eq b a.mark) a.s.now s.rest s.done s.closure (λ x r q k. search (rules, tests)))))
