@@ -10,7 +10,8 @@ use record::Wait;
 use ring::End;
 use text::output::Out;
 
-// A value that is printed where it changes, into a room of N bytes. N is the trait's, since a trait's method can have no const parameter of its own.
+// A value that is printed where it changes, into a room of N bytes: in the replay's words, so that it is no `Display` of a kernel's wait or owner.
+// N is the trait's, since a trait's method can have no const parameter of its own.
 pub trait Shown<const N: usize>: Copy + PartialEq {
     ghost text: { Self → List ℕ };
 

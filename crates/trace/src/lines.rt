@@ -18,6 +18,7 @@ fn number_after<const N: usize>(out: &mut Out<N>, s: &[u8], n: u32)
     out.byte(b',');
 }
 
+// An answer in the line's own form: value and number stand between commas (`answer_text` of specs/Lines), where `Display` has spaces.
 fn answer<const N: usize>(out: &mut Out<N>, a: Answer)
     requires { length out.old + 20 ≤ N }
     ensures put { out.new ≡ out.old ++ answer_text (said a) }

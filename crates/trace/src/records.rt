@@ -6,7 +6,7 @@ use crate::steps::Bench;
 use text::output::Out;
 use text::scanner::Scanner;
 
-// What is carried from chunk to chunk. `begun` says that the header has ended.
+// What is carried from chunk to chunk. `begun` says that the header has ended: a state of its own (`passed` of specs/Chunks), and the bench stands from the start.
 #[derive(Drop)]
 pub struct Trace {
     scanner: Scanner,
