@@ -14,11 +14,11 @@ use maps::Number;
 use record::{Setup, Wait};
 use rules::Reading;
 
-pub mod numbers;
+mod numbers;
 pub mod poked;
-pub mod poking;
-pub mod split;
-pub mod values;
+mod poking;
+mod split;
+mod values;
 
 // A field of the kernel record and what it becomes; `at` is the slot.
 #[derive(Clone, Copy)]
@@ -46,7 +46,7 @@ pub enum Poke {
     Writers { at: u32, value: u32 },
 }
 
-// What a record asks that is one of the words.
+// What a record asks that is one of the words. Four capacities, for the most channels that there are: a command is held without heap.
 #[derive(Clone, Copy)]
 pub enum Asked {
     Setup { setup: Setup, capacities: [u32; 4] },

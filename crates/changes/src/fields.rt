@@ -24,7 +24,7 @@ fn put_name<const N: usize>(out: &mut Out<N>, name: &[u8], slot: Option<u32>)
     }
 }
 
-// Text, old and new stay three parameters here and in what calls it: a struct of the three would be made anew for each of some sixty fields.
+// Text, old and new stay three parameters here and in what calls it: a struct of the three would be made anew at each call, since every one has other values.
 pub fn put_change<T: Shown<N>, const N: usize>(
     out: &mut Out<N>,
     name: &[u8],

@@ -15,12 +15,8 @@ pub fn setup([mode, processes, flags, mutexes, channels]: [u32; 5]) -> Setup {
     }
 }
 
-// A match and no `map_or`, which would name the refusal first.
 fn number(answer: Result<(), OutsideLimits>) -> u32 {
-    match answer {
-        Ok(()) => 0,
-        Err(OutsideLimits) => 14,
-    }
+    answer.map_or(14, |()| 0)
 }
 
 pub fn run(rt: &impl Print) -> io::Result<()> {

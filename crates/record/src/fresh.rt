@@ -94,6 +94,7 @@ impl Kernel {
         }
         k.setup = s;
         k.ready = maps::every(s.processes);
+        // By number, which `start_channel` of specs/Fresh asks for.
         for (i, c) in k.channel.iter_mut().enumerate() {
             *c = start_channel(s.channels, i as u32, capacities[i]);
         }

@@ -169,6 +169,7 @@ fn see_all<T, M: Fn(&T) -> u32, F: Fn(&T) -> bool>(
     ensures { (f : ℕ → ℕ) (h : ℕ → Bool) → Gives M.Fn map services.now f → Gives F.Fn fine services.now h → result ≡ over f (λ i. get_or waiting.now i 0) h start (length services.now) }
 {
     let mut seen = start;
+    // By number and no zip: `over` of specs/Check asks for the i-th map and the i-th word, and there are more words than services.
     for (i, x) in services.iter().enumerate() {
         seen = see(seen, map(x), waiting[i], fine(x));
     }

@@ -87,8 +87,7 @@ pub enum Refusal {
 // What the refusal table says of a call.
 pub type Verdict = Result<(), Refusal>;
 
-// A refusal is one of document 01's six answers, and `said` of specs/Answers has a word for each of the six: so no Result, whose Err would leave out the
-// record, which goes with every answer (`Outcome`).
+// A refusal is one of document 01's six answers, and `said` of specs/Answers has a word for each of the six: so no Result around five.
 #[derive(Clone, Copy)]
 pub enum Answer {
     Done,
