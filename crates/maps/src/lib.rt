@@ -36,8 +36,8 @@ pub fn tag_of(p: Number) -> Tag
     Tag(TAGS[p.0 as usize])
 }
 
-// The number of the process that has this tag, 32 where no process has it: no Option, since `number_of` and `lowest` of specs/Maps, and the theorems over
-// them, count the digits below the lowest set one, which are all 32 where there is none.
+// The number of the process that has this tag, 32 where no process has it: no Option, since `number_of` of specs/Maps, and the theorems over it, give 32 for
+// each word that is no tag.
 pub fn number_of(tag: Tag) -> Number
     ensures { result ≡ record { 0 = number_of tag.0 } }
 {
