@@ -6,7 +6,7 @@ ghost use Rattle.asked.specs.Table.{picked, checked};
 ghost use Rattle.asked.specs.Fields.{are_words, nine_numbers};
 ghost use Rattle.asked.specs.Words.{setup_numbers, capacities, setup, words, asked_of};
 
-use crate::numbers::{WORD, no_number, number_in, one_number, two_numbers};
+use crate::numbers::{WORD, try_no_number, try_number_in, try_one_number, try_two_numbers};
 use crate::poking::poke_of;
 use crate::split::{field, fields};
 use crate::values::word;
@@ -14,11 +14,11 @@ use maps::Number;
 use record::{Setup, Wait};
 use rules::Reading;
 
-mod numbers;
+pub mod numbers;
 pub mod poked;
-mod poking;
-mod split;
-mod values;
+pub mod poking;
+pub mod split;
+pub mod values;
 
 // A field of the kernel record and what it becomes; `at` is the slot.
 #[derive(Clone, Copy)]
@@ -67,11 +67,11 @@ fn setup_numbers(s: &[u8]) -> Result<Setup, Unreadable>
     ensures { result ≡ checked (are_words s.now 1 5) (setup_numbers s.now) }
 {
     Ok(Setup {
-        mode: number_in(s, 1)?,
-        processes: number_in(s, 2)?,
-        flags: number_in(s, 3)?,
-        mutexes: number_in(s, 4)?,
-        channels: number_in(s, 5)?,
+        mode: try_number_in(s, 1)?,
+        processes: try_number_in(s, 2)?,
+        flags: try_number_in(s, 3)?,
+        mutexes: try_number_in(s, 4)?,
+        channels: try_number_in(s, 5)?,
     })
 }
 
@@ -80,10 +80,10 @@ fn capacities(s: &[u8]) -> Result<[u32; 4], Unreadable>
     ensures { result ≡ checked (are_words s.now 6 4) (capacities s.now) }
 {
     Ok([
-        number_in(s, 6)?,
-        number_in(s, 7)?,
-        number_in(s, 8)?,
-        number_in(s, 9)?,
+        try_number_in(s, 6)?,
+        try_number_in(s, 7)?,
+        try_number_in(s, 8)?,
+        try_number_in(s, 9)?,
     ])
 }
 
@@ -107,45 +107,45 @@ fn word_of(name: &str, s: &[u8]) -> Result<Option<Asked>, Unreadable>
     match name {
         "setup" => Ok(Some(setup_of(s)?)),
         "room" => Ok(Some(Asked::Room {
-            len: one_number(s, 256)?,
+            len: try_one_number(s, 256)?,
         })),
         "block" => {
-            let (len, first) = two_numbers(s, 64)?;
+            let (len, first) = try_two_numbers(s, 64)?;
             Ok(Some(Asked::Block { len, first }))
         }
         "writeb" => Ok(Some(Asked::Write {
-            channel: one_number(s, WORD)?,
+            channel: try_one_number(s, WORD)?,
         })),
         "readb" => Ok(Some(Asked::Read {
-            channel: one_number(s, WORD)?,
+            channel: try_one_number(s, WORD)?,
         })),
         "running" => {
-            no_number(s)?;
+            try_no_number(s)?;
             Ok(Some(Asked::Reading(Reading::Running)))
         }
         "next" => {
-            no_number(s)?;
+            try_no_number(s)?;
             Ok(Some(Asked::Reading(Reading::Next)))
         }
         "ready" => {
-            no_number(s)?;
+            try_no_number(s)?;
             Ok(Some(Asked::Reading(Reading::Ready)))
         }
         "ticks" => {
-            no_number(s)?;
+            try_no_number(s)?;
             Ok(Some(Asked::Reading(Reading::Ticks)))
         }
         "flag" => Ok(Some(Asked::Reading(Reading::FlagState {
-            flag: one_number(s, WORD)?,
+            flag: try_one_number(s, WORD)?,
         }))),
         "owner" => Ok(Some(Asked::Reading(Reading::Owner {
-            mutex: one_number(s, WORD)?,
+            mutex: try_one_number(s, WORD)?,
         }))),
         "count" => Ok(Some(Asked::Reading(Reading::ItemCount {
-            channel: one_number(s, WORD)?,
+            channel: try_one_number(s, WORD)?,
         }))),
         "free" => Ok(Some(Asked::Reading(Reading::FreePlaces {
-            channel: one_number(s, WORD)?,
+            channel: try_one_number(s, WORD)?,
         }))),
         "poke" => Ok(Some(Asked::Poke(poke_of(s)?))),
         _ => Ok(None),

@@ -6,7 +6,7 @@ ghost use Rattle.asked.specs.Pokes.{once, counter_at, channel_fields, service_fi
 
 use crate::numbers::{number, up_to};
 use crate::split::{field, fields};
-use crate::values::{bit, owner_of, wait_of, word};
+use crate::values::{bit, try_owner_of, wait_of, word};
 use crate::{Poke, Unreadable};
 use record::Kernel;
 
@@ -85,7 +85,7 @@ fn service_field(name: &str, index: &[u8], value: &[u8]) -> Result<Poke, Unreada
         }),
         "owner" => Ok(Poke::Owner {
             at: up_to(index, LAST_SERVICE)?,
-            owner: owner_of(value).ok_or(Unreadable)?,
+            owner: try_owner_of(value).ok_or(Unreadable)?,
         }),
         "lockers" => Ok(Poke::Lockers {
             at: up_to(index, LAST_SERVICE)?,

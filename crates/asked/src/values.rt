@@ -46,13 +46,28 @@ fn end_of(s: &[u8]) -> Option<End>
 // ---- an owner
 
 #[tactic(auto, using(crate::proofs::Words::same_not, crate::proofs::Plain::read_number), unfolding(crate::specs::Table::is_ascii, crate::specs::Values::is_owner, crate::specs::Values::owner_of))]
-pub fn owner_of(s: &[u8]) -> Option<Option<Number>>
+pub fn try_owner_of(s: &[u8]) -> Option<Option<Number>>
     ensures { result ≡ then_some (is_owner s.now) (owner_of s.now) }
 {
     match word(s) {
         "nobody" => Some(None),
         _ => Some(Some(Number(parse(s, WORD)?))),
     }
+}
+
+// Whether it is one.
+pub fn is_owner(s: &[u8]) -> bool
+    ensures { result ≡ is_owner s.now }
+{
+    try_owner_of(s).is_some()
+}
+
+// The owner that a text is, and process 0 where it is none.
+#[tactic(auto, unfolding(crate::specs::Values::is_owner, crate::specs::Values::owner_of, crate::specs::Fields::number))]
+pub fn owner_of(s: &[u8]) -> Option<Number>
+    ensures { result ≡ owner_of s.now }
+{
+    try_owner_of(s).unwrap_or(Some(Number(0)))
 }
 
 // ---- a wait: its parts stand between dots, and the first says which wait it is

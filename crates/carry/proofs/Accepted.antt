@@ -1,5 +1,5 @@
 -- What acceptance gives the code: the slots that a call works on are in their tables, and its parts are what it asks for. Assumes nothing.
-use Rattle.std.proofs.Common.{◌≡◌, ℕ, ◌<◌, ◌≤◌, min, true, ◌||◌, List, length, sym, refl, subst, arith, ltb-true, Ok}
+use Rattle.std.proofs.Common.{◌≡◌, ℕ, ◌<◌, ◌≤◌, min, true, ◌||◌, List, length, sym, refl, ◌∙◌, subst, arith, ltb-true, lt-ltb, Ok}
 use Rattle.maps.proofs.Truth.{taut, mp}
 use Rattle.record.specs.declared.Kernel.{Kernel}
 use Rattle.record.specs.declared.Process.{Process}
@@ -29,7 +29,7 @@ use Rattle.rules.specs.Refusals.{verdict}
 use Rattle.rules.proofs.Accepted.{passed, sound-of, depth-above, flag-below, mutex-below, channel-below, process-below}
 use Rattle.parts.specs.declared.Spot.{Spot}
 use Rattle.parts.specs.Needs.{Usable}
-use Rattle.parts.specs.Spots.{named_by_wait, slots, Inside}
+use Rattle.parts.specs.Spots.{named_by_wait, slots, below, inside, Inside}
 use Rattle.parts.specs.Taken.{taken}
 use Rattle.parts.proofs.PutBack.{Begins, spot_at}
 use Rattle.parts.proofs.Finished.{row_back}
@@ -121,6 +121,16 @@ target-slotted k n (call.Interrupt i) a = name-slotted k n (call.Interrupt i) a 
 pub spot-inside : (k : Kernel) (n : ℕ) (c : Call) → verdict k n c ≡ Ok tt → {s : Spot} → s ≡ worked_on k c → Inside s
 spot-inside k n c a e =
     subst (λ (s : Spot). Inside s) (sym e) (slots-inside k.running.0 (target (caller_row k).wait c) (caller-slot k n c a) (target-slotted k n c a))
+
+-- slots that are in their tables stay
+below-same : (n i : ℕ) → i < n → below n i ≡ i
+below-same n i h = simp (lt-ltb i n h)
+
+inside-same : (s : Spot) → Inside s → inside s ≡ s
+inside-same s h = simp (below-same 32 s.process h.process, below-same 8 s.flag h.flag, below-same 8 s.mutex h.mutex, below-same 4 s.channel h.channel)
+
+pub spot-stays : (k : Kernel) (n : ℕ) (c : Call) → verdict k n c ≡ Ok tt → {m s : Spot} → m ≡ worked_on k c → s ≡ inside m → s ≡ worked_on k c
+spot-stays k n c a {m} {s} e i = i ∙ inside-same m (spot-inside k n c a e) ∙ e
 
 -- ---- what it asks for, with its part of the room lent from st on
 module _ (k : Kernel) (room : List ℕ) (st : ℕ) where

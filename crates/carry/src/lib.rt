@@ -42,7 +42,7 @@ pub fn carry_out(k: &mut Kernel, room: &mut [u32], from: &[u32], to: &mut [u32],
     requires { verdict k.old (length room.old) c ≡ Ok tt }
     ensures { effect k.old room.old (lent c from.now to.old) c ≡ record { answer = said result; kernel = k.new; room = room.new; block = lent c from.now to.new } }
 {
-    let s = spots::worked_on(k, c);
+    let s = spots::worked_on(k, c).inside();
     let start = room::start_of(k.channel, s.channel, room.len());
     let mut x = Parts::of(k, s);
     let answer = carry_out_over(&mut x, &mut room[start..], from, to, c);

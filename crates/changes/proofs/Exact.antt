@@ -25,7 +25,7 @@ change-iff same x rest = search rules
 eqb-iff : (m n : ℕ) → (eqb m n ≡ true) ↔ (m ≡ n)
 eqb-iff m n = search rules
 
-bit-iff : (a b : Bool) → (bit a ≡ bit b) ↔ (a ≡ b)
+pub bit-iff : (a b : Bool) → (bit a ≡ bit b) ↔ (a ≡ b)
 bit-iff a b = search rules
 
 below-iff : (n : ℕ) (f : ℕ → List ℕ) → (below n f ≡ []) ↔ ((i : ℕ) → i < n → f i ≡ [])

@@ -10,7 +10,7 @@ use Rattle.record.specs.declared.Wait.TheVariants.{Nothing}
 use Rattle.record.specs.Record.{process_at}
 use Rattle.record.specs.Places.{place_of}
 use Rattle.room.specs.Room.{Starts}
-use Rattle.room.proofs.Lent.{lent, back as back_whole, kept as kept-whole, put-mid, take-mid}
+use Rattle.room.proofs.Lent.{lent, back as back_whole, kept as kept-whole, put-end-mid, take-mid}
 use Rattle.rules.specs.declared.Named.{Named}
 use Rattle.rules.specs.declared.Named.TheVariants as named
 use Rattle.rules.specs.declared.Answer.{Answer}
@@ -169,7 +169,7 @@ module _ (k : Kernel) (room : List ℕ) (a i : ℕ) (e : End) (b : Starts k.chan
       ≡ record { answer = Done; kernel = choose m; room = rule.room_pushed k room i e v }
   put-word-back {m = m} h v =
       ap (λ (n : Kernel). record { answer = Done; kernel = n; room = back_whole room a (part.part_pushed (of k (named.Channel i)) (lent room a) e v) }) (chosen h)
-      ∙ ap (λ (r : List ℕ). record { answer = Done; kernel = choose m; room = r }) (put-mid room b e v)
+      ∙ ap (λ (r : List ℕ). record { answer = Done; kernel = choose m; room = r }) (put-end-mid room b e v)
 
   pub take-word-back : {x : Parts} {m : Kernel} → Back k (spot k (named.Channel i)) x m
       → back k (spot k (named.Channel i)) (part.ends (Value (part.word_popped (of k (named.Channel i)) (lent room a) e)) x) ≡ rule.ends (Value (rule.word_popped k room i e)) m

@@ -1,5 +1,5 @@
 -- Which slots a call works on: of the processes the caller's or the one that is named, of the services the one that is named; 0 where none is.
-use Rattle.std.specs.Prelude.{ℕ, ◌<◌}
+use Rattle.std.specs.Prelude.{ℕ, ◌<◌, cond, ltb}
 use Rattle.record.specs.declared.Wait.{Wait}
 use Rattle.record.specs.declared.Wait.TheVariants.{Nothing, Sleep, Flag, Mutex, Push, Pop}
 use Rattle.rules.specs.declared.Named.{Named}
@@ -22,6 +22,13 @@ slots p (named.Flag i) = record { process = p; flag = i; mutex = 0; channel = 0 
 slots p (named.Mutex i) = record { process = p; flag = 0; mutex = i; channel = 0 }
 slots p (named.Channel i) = record { process = p; flag = 0; mutex = 0; channel = i }
 slots p (named.Process q) = record { process = q.0; flag = 0; mutex = 0; channel = 0 }
+
+-- 0 where a number is none of the first n
+abbrev pub below : ℕ → ℕ → ℕ
+below n i = cond (ltb i n) i 0
+
+abbrev pub inside : Spot → Spot
+inside s = record { process = below 32 s.process; flag = below 8 s.flag; mutex = below 8 s.mutex; channel = below 4 s.channel }
 
 -- the slots are in their tables
 pub record Inside (s : Spot) : Type 0 where

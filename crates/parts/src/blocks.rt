@@ -33,7 +33,7 @@ impl Parts {
 
     // ---- the map at a wait's place. One function that lends its `&mut` would have a clause over five arms of what becomes of the parts, which is no plainer
 
-    pub(crate) fn map_of(&self, w: Wait) -> u32
+    pub fn map_of(&self, w: Wait) -> u32
         ensures { result ≡ map_at self.now (place_of w) }
     {
         match w {
@@ -45,7 +45,7 @@ impl Parts {
         }
     }
 
-    fn put_map(&mut self, w: Wait, map: u32)
+    pub fn put_map(&mut self, w: Wait, map: u32)
         ensures { self.new ≡ with_map self.old (place_of w) map }
     {
         match w {
@@ -59,7 +59,7 @@ impl Parts {
 
     // ---- waits
 
-    pub(crate) fn open_wait(&mut self, w: Wait, t: u16)
+    pub fn open_wait(&mut self, w: Wait, t: u16)
         ensures { self.new ≡ opened self.old w t }
     {
         self.row = Process {
@@ -69,7 +69,7 @@ impl Parts {
         self.wait_again(w);
     }
 
-    pub(crate) fn wait_again(&mut self, w: Wait)
+    pub fn wait_again(&mut self, w: Wait)
         ensures { self.new ≡ again self.old w }
     {
         let map = maps::with(self.map_of(w), self.caller);
@@ -77,14 +77,14 @@ impl Parts {
         self.ready = maps::without(self.ready, self.caller);
     }
 
-    pub(crate) fn leave_map(&mut self, w: Wait)
+    pub fn leave_map(&mut self, w: Wait)
         ensures { self.new ≡ left self.old (place_of w) }
     {
         let map = maps::without(self.map_of(w), self.caller);
         self.put_map(w, map);
     }
 
-    pub(crate) fn close(&mut self)
+    pub fn close(&mut self)
         ensures { self.new ≡ closed self.old }
     {
         self.row = Process::default();

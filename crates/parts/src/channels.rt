@@ -13,7 +13,7 @@ use rules::Answer;
 // Parts and part stay two parameters: in one struct the contracts would say `self.old.part.now` and `self.new.part.now`, which is no plainer.
 impl Parts {
     // Puts the item if there is room; whether there was.
-    pub(crate) fn put_item(&mut self, part: &mut [u32], item: u32, end: End) -> bool
+    pub fn put_item(&mut self, part: &mut [u32], item: u32, end: End) -> bool
         requires { Lent self.old.channel (length part.old) }
         ensures { (result ≡ has_room self.old.channel) × (self.new ≡ cond (has_room self.old.channel) (pushed self.old end) self.old) × (part.new ≡ cond (has_room self.old.channel) (part_pushed self.old part.old end item) part.old) }
     {
@@ -26,7 +26,7 @@ impl Parts {
     }
 
     // Takes an item if there is one.
-    pub(crate) fn take_item(&mut self, part: &[u32], end: End) -> Option<u32>
+    pub fn take_item(&mut self, part: &[u32], end: End) -> Option<u32>
         requires { Lent self.old.channel (length part.now) }
         ensures { (result ≡ cond (has_item self.old.channel) (Some (word_popped self.old part.now end)) None) × (self.new ≡ cond (has_item self.old.channel) (popped self.old end) self.old) }
     {

@@ -24,7 +24,8 @@ pub struct Spot {
 }
 
 // Setup, ticks and the caller's tag are only read. The tag is that of the process that runs as the call comes in, looked up once: a call that makes or
-// closes a wait then asks nothing of the caller's number. Parts are not copied and cannot be dropped: what is taken has to be put back.
+// closes a wait then asks nothing of the caller's number.
+#[derive(Clone, Copy)]
 pub struct Parts {
     pub setup: Setup,
     pub depth: u32,

@@ -8,13 +8,20 @@ use record::Wait;
 use rules::Answer;
 
 impl Parts {
+    // The caller owns it, whoever did.
+    pub fn own(&mut self)
+        ensures { self.new ≡ locked self.old }
+    {
+        self.mutex.owner = Some(self.running);
+    }
+
     // The caller owns it if it is free; whether it was.
-    pub(crate) fn own_free(&mut self) -> bool
+    pub fn own_free(&mut self) -> bool
         ensures { (result ≡ is_free self.old.mutex.owner) × (self.new ≡ cond (is_free self.old.mutex.owner) (locked self.old) self.old) }
     {
         let free = self.mutex.owner.is_none();
         if free {
-            self.mutex.owner = Some(self.running);
+            self.own();
         }
         free
     }

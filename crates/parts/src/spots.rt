@@ -1,6 +1,6 @@
 // Which slots a call works on, and the parts of a record there, taken and put back.
 ghost use Rattle.std.specs.Prelude.{◌≡◌, ◌<◌};
-ghost use Rattle.parts.specs.Spots.{named_by_wait, slots, Inside};
+ghost use Rattle.parts.specs.Spots.{named_by_wait, slots, below, inside, Inside};
 ghost use Rattle.parts.specs.Taken.{taken, put_back};
 
 use crate::{Parts, Spot};
@@ -38,6 +38,28 @@ impl Spot {
                 process: p.0,
                 ..own
             },
+        }
+    }
+}
+
+// 0 where a number is none of the first n.
+pub fn below(n: u32, i: u32) -> u32
+    requires { 0 < n }
+    ensures { (result ≡ below n i) × (result < n) }
+{
+    if i < n { i } else { 0 }
+}
+
+impl Spot {
+    // Slot 0 where there is none of that number: in their tables whatever the slots are.
+    pub fn inside(self) -> Spot
+        ensures { (result ≡ inside self) × Inside result }
+    {
+        Spot {
+            process: below(Kernel::PROCESSES, self.process),
+            flag: below(Kernel::FLAGS, self.flag),
+            mutex: below(Kernel::MUTEXES, self.mutex),
+            channel: below(Kernel::CHANNELS, self.channel),
         }
     }
 }

@@ -2,6 +2,9 @@
 // and writes the header and a line for each record but the first.
 #![tactic(auto)]
 
+ghost use Rattle.std.specs.Prelude.{◌≡◌, ◌*◌, ◌≤◌, length};
+ghost use Rattle.trace.specs.Chunks.{ran, text_of, last_text};
+
 use std::env;
 use std::fs::File;
 use std::io::{self, Read, Write};
@@ -12,6 +15,24 @@ use trace::records::Trace;
 const INPUT: usize = 16384;
 
 const OUTPUT: usize = 2097152;
+
+// A chunk of the input: the output begins anew, and is what the chunk prints.
+fn turn(trace: &mut Trace, input: &[u8], output: &mut Out<OUTPUT>)
+    requires { 128 * length input.now ≤ 2097152 }
+    ensures trace { trace.new ≡ ran input.now trace.old }
+    ensures put { output.new ≡ text_of input.now trace.old }
+{
+    output.clear();
+    trace.run(input, output);
+}
+
+// The end of the input.
+fn last(trace: Trace, out: &mut Out<OUTPUT>)
+    ensures { out.new ≡ last_text trace }
+{
+    out.clear();
+    trace.finish(out);
+}
 
 fn run<R: Read>(rt: &impl Print, reader: &mut R) -> io::Result<()> {
     print!(rt; "call,answer,value,running,ready\r\n")?;
@@ -24,12 +45,10 @@ fn run<R: Read>(rt: &impl Print, reader: &mut R) -> io::Result<()> {
         if n == 0 {
             break;
         }
-        output.clear();
-        trace.run(&input[..n], &mut output);
+        turn(&mut trace, &input[..n], &mut output);
         io::writer(rt).write_all(output.written())?;
     }
-    output.clear();
-    trace.finish(&mut output);
+    last(trace, &mut output);
     io::writer(rt).write_all(output.written())
 }
 

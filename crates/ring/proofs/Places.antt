@@ -59,3 +59,7 @@ take-back-place c h = ap (◌% c.capacity) (omega arith)
 pub put-place-lt : (e : End) (c : Channel) → 0 < c.capacity → put_place e c < c.capacity
 put-place-lt Front c h = mod-lt (c.first + c.capacity - 1) h
 put-place-lt Back c h = mod-lt (c.first + c.count) h
+
+pub take-place-lt : (e : End) (c : Channel) → c.first < c.capacity → take_place e c < c.capacity
+take-place-lt Front c h = h
+take-place-lt Back c h = mod-lt (c.first + c.count - 1) (omega arith)

@@ -1,14 +1,13 @@
 -- What a leaf did to the part of the room that it was lent, said of the whole room: `lent xs a` is the part from a on, `back xs a ys` the whole
 -- when ys came back in its place. Assumes nothing.
-use Rattle.std.proofs.Common.{ℕ, zero, suc, ◌+◌, ◌-◌, ◌<◌, ◌≤◌, min, ◌≡◌, List, [], ◌∷◌, ◌++◌, length, get_or, set, take, drop, refl, sym, ap, ◌∙◌, arith, zero-add, suc-add, length-take, length-drop, length-take-le, get_or-take, get_or-drop, mod-lt}
+use Rattle.std.proofs.Common.{ℕ, zero, suc, ◌+◌, ◌-◌, ◌<◌, ◌≤◌, min, ◌≡◌, List, [], ◌∷◌, ◌++◌, length, get_or, set, take, drop, refl, sym, ap, ◌∙◌, arith, zero-add, suc-add, length-take, length-drop, length-take-le, get_or-take, get_or-drop}
 use Rattle.std.proofs.Math.Nat.{min-eq_left}
 use Rattle.std.proofs.Math.Seq.{set-append_left}
 use borrow.Rule.Slice.PartMut.{mid_of, post_of, put_mid, put_same, set_mid_at}
 use Rattle.ring.specs.declared.Channel.{Channel}
 use Rattle.ring.specs.declared.End.{End}
-use Rattle.ring.specs.declared.End.TheVariants.{Front, Back}
 use Rattle.ring.specs.Ring.{Lent, place, put_place, take_place, put_words, items, read_words}
-use Rattle.ring.proofs.Places.{place-lt, put-place-lt}
+use Rattle.ring.proofs.Places.{place-lt, put-place-lt, take-place-lt}
 use Rattle.ring.proofs.Blocks.{length-put_words}
 use Rattle.room.specs.Room.{channel_in, offset, There, Starts}
 
@@ -36,10 +35,6 @@ get_or-mid a k xs j h = rw (get_or-take, get_or-drop)
 pub kept : (xs : List ℕ) (a : ℕ) → back xs a (lent xs a) ≡ xs
 kept xs a = put_same a (length xs - a) xs
 
-take-place-lt : (e : End) (c : Channel) → c.first < c.capacity → take_place e c < c.capacity
-take-place-lt Front c h = h
-take-place-lt Back c h = mod-lt (c.first + c.count - 1) (omega arith)
-
 -- ---- a channel's part
 -- it starts where `start_of` says
 pub starts : {cs : List Channel} {ch n a : ℕ} → There cs ch n → a ≡ min (offset cs ch) n → Starts cs ch n a
@@ -52,24 +47,28 @@ module _ (xs : List ℕ) {cs : List Channel} {ch : ℕ} {a : ℕ} (start : Start
   abbrev c : Channel
   c = channel_in cs ch
 
-  lent-long : length (lent xs a) ≡ length xs - a
+  pub lent-long : length (lent xs a) ≡ length xs - a
   lent-long = simp (length-take, length-drop) (omega arith)
 
   -- it holds the channel's words
   pub lent-holds : Lent c (length (lent xs a))
   lent-holds = record { fits = start.fits; holds = omega (arith, lent-long, start.room) }
 
-  -- an item put in the part is put in the whole
-  pub put-mid : (e : End) (v : ℕ) → back xs a (set (lent xs a) (put_place e c) v) ≡ set xs (offset cs ch + put_place e c) v
-  put-mid e v =
-      set_mid_at a (length xs - a) (put_place e c) xs v (omega (arith, lent-long, start.room, put-place-lt e c start.fits.some))
-      ∙ ap (λ (n : ℕ). set xs (n + put_place e c) v) start.here
+  -- one word put in the part is put in the whole, at the end where an item is put too
+  pub put-mid : (ys : List ℕ) (j v : ℕ) → j < (channel_in cs ch).capacity → ys ≡ set (lent xs a) j v → back xs a ys ≡ set xs (offset cs ch + j) v
+  put-mid ys j v h e =
+      ap (back xs a) e ∙ set_mid_at a (length xs - a) j xs v (omega (arith, lent-long, start.room))
+      ∙ ap (λ (n : ℕ). set xs (n + j) v) start.here
 
-  -- an item taken from the part is that of the whole
+  pub put-end-mid : (e : End) (v : ℕ) → back xs a (set (lent xs a) (put_place e c) v) ≡ set xs (offset cs ch + put_place e c) v
+  put-end-mid e v = put-mid _ (put_place e c) v (put-place-lt e c start.fits.some) refl
+
+  -- a word of the part is a word of the whole, the item that is taken too
+  pub word-mid : (j : ℕ) → j < (channel_in cs ch).capacity → get_or (lent xs a) j 0 ≡ get_or xs (offset cs ch + j) 0
+  word-mid j h = get_or-mid a (length xs - a) xs j (omega (arith, start.room)) ∙ ap (λ (m : ℕ). get_or xs (m + j) 0) start.here
+
   pub take-mid : (e : End) → get_or (lent xs a) (take_place e c) 0 ≡ get_or xs (offset cs ch + take_place e c) 0
-  take-mid e =
-      get_or-mid a (length xs - a) xs (take_place e c) (omega (arith, start.room, take-place-lt e c start.fits.first))
-      ∙ ap (λ (m : ℕ). get_or xs (m + take_place e c) 0) start.here
+  take-mid e = word-mid (take_place e c) (take-place-lt e c start.fits.first)
 
   -- words put in the part are put in the whole
   words-mid : (ws : List ℕ) (n : ℕ) → back xs a (put_words (lent xs a) 0 c ws n) ≡ put_words xs a c ws n

@@ -21,7 +21,7 @@ offset-taken cs m n h =
     let below : n < m = omega (arith, length-take m cs) in
     rw (get_or-take m cs n no_channel below) (sym (offset-more cs n))
 
-offset-mono : (cs : List Channel) (m d : ℕ) → offset cs m ≤ offset cs (m + d)
+pub offset-mono : (cs : List Channel) (m d : ℕ) → offset cs m ≤ offset cs (m + d)
 offset-mono cs m zero = rw add-zero (omega arith)
 offset-mono cs m (suc d) = rw (add-suc, ← add-one, offset-more) (omega (arith, offset-mono cs m d))
 

@@ -2,3 +2,4 @@ pub mod Ascii
 pub mod Records
 pub mod Decimals
 pub mod Scan
+pub mod Put

@@ -1,5 +1,6 @@
-// The fields of a record. Words are compared by `==`, which `same` of specs/Ascii is.
+// The fields of a record, and words compared: `same` of specs/Ascii is `==`.
 ghost use Rattle.std.specs.Prelude.{◌≡◌, ◌+◌, ◌≤◌, length, drop};
+ghost use Rattle.text.specs.Ascii.{same as same_text};
 ghost use Rattle.text.specs.Records.{up_to, before};
 
 fn up_to(s: &[u8], mark: u8) -> usize
@@ -15,4 +16,10 @@ pub fn end_of(s: &[u8], from: usize) -> usize
     ensures { (result ≡ from + before (drop from s.now)) × (from ≤ result) × (result ≤ length s.now) }
 {
     from + up_to(&s[from..], b',')
+}
+
+pub fn same(s: &[u8], t: &[u8]) -> bool
+    ensures { result ≡ same_text s.now t.now }
+{
+    s == t
 }

@@ -7,10 +7,10 @@ use std::mem;
 
 // The first 66 bytes of the record under way: one more than it is cut to, for a CR that may turn out to be the first half of its end.
 // `cr` says that the last byte of all is a CR.
-#[derive(Drop)]
+#[derive(Clone, Copy)]
 pub struct Scanner {
-    line: Out<66>,
-    cr: bool,
+    pub line: Out<66>,
+    pub cr: bool,
 }
 
 impl Scanner {

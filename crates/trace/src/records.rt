@@ -7,11 +7,11 @@ use text::output::Out;
 use text::scanner::Scanner;
 
 // What is carried from chunk to chunk. `begun` says that the header has ended: a state of its own (`passed` of specs/Chunks), and the bench stands from the start.
-#[derive(Drop)]
+#[derive(Clone, Copy)]
 pub struct Trace {
-    scanner: Scanner,
-    begun: bool,
-    bench: Bench,
+    pub scanner: Scanner,
+    pub begun: bool,
+    pub bench: Bench,
 }
 
 impl Trace {

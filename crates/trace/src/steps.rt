@@ -2,18 +2,18 @@
 ghost use Rattle.std.specs.Prelude.{◌≡◌, ◌++◌, ◌+◌, ◌≤◌, length};
 ghost use Rattle.rules.specs.Answers.{said};
 ghost use Rattle.rules.specs.Sheet.{bench};
-ghost use Rattle.trace.specs.Output.{done_by, start, line_of, after};
+ghost use Rattle.trace.specs.Output.{did, done_by, start, line_of, after};
 
 use crate::Command;
 use crate::commands::order_of;
 use crate::lines::line;
 use record::{Kernel, Setup};
-use rules::{Answer, Call};
+use rules::{Answer, Call, Refusal};
 use std::marker::Model;
 use text::output::Out;
 
 // The kernel under test and its room.
-#[derive(Drop)]
+#[derive(Clone, Copy)]
 pub struct Bench {
     kernel: Kernel,
     room: [u32; 2],
@@ -25,16 +25,29 @@ impl Model for Bench {
     ghost Value = { State };
 
     ghost view = { λ b. record { kernel = b.kernel; room = b.room } };
+
+    ghost inverse = { λ s. record { kernel = s.kernel; room = s.room } };
 }
 
 impl Bench {
-    pub(crate) fn new() -> Self
+    pub fn new() -> Self
         ensures { result ≡ start }
     {
-        Bench {
-            kernel: Kernel::zeros(),
-            room: [0; 2],
-        }
+        Bench::of(Kernel::zeros(), [0; 2])
+    }
+
+    // Any kernel, a damaged one too, and any room.
+    pub fn of(kernel: Kernel, room: [u32; 2]) -> Self
+        ensures { result ≡ record { kernel = kernel; room = room } }
+    {
+        Bench { kernel, room }
+    }
+
+    // Its kernel and its room.
+    pub fn state(&self) -> (Kernel, [u32; 2])
+        ensures { (result.0 ≡ self.now.kernel) × (result.1 ≡ self.now.room) }
+    {
+        (self.kernel, self.room)
     }
 
     // The bench kernel A or B with a zeroed room. A mode is a number as in the record, whose first rule speaks of numbers that are none.
@@ -69,13 +82,15 @@ impl Bench {
         done.answer
     }
 
-    fn perform(&mut self, c: Command) -> Answer
-        ensures { done_by self.old c ≡ record { answer = said result; state = self.new } }
+    // An unreadable record changes nothing.
+    pub fn perform(&mut self, c: Option<Command>) -> Answer
+        ensures { did self.old c ≡ record { answer = said result; state = self.new } }
     {
         match c {
-            Command::Direct => self.start(0),
-            Command::Deferred => self.start(1),
-            Command::Call { call, len, item } => self.lend(call, len, item),
+            None => Answer::Refused(Refusal::Unreadable),
+            Some(Command::Direct) => self.start(0),
+            Some(Command::Deferred) => self.start(1),
+            Some(Command::Call { call, len, item }) => self.lend(call, len, item),
         }
     }
 
@@ -86,12 +101,10 @@ impl Bench {
         ensures most { length out.new ≤ length out.old + (length s.now + 43) }
     {
         let (word, command) = order_of(s);
+        let answer = self.perform(command);
         match command {
             None => out.text(b"?,refused,15,,\r\n"),
-            Some(c) => {
-                let answer = self.perform(c);
-                line(out, word, answer, self.kernel.running.0, self.kernel.ready);
-            }
+            Some(_) => line(out, word, answer, self.kernel.running.0, self.kernel.ready),
         }
     }
 }
