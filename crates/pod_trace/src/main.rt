@@ -16,7 +16,9 @@ const INPUT: usize = 16384;
 
 const OUTPUT: usize = 2097152;
 
-// A chunk of the input: the output begins anew, and is what the chunk prints.
+// A chunk of the input: the output begins anew, and is what the chunk prints. Inlined, since the trace is then no longer behind a reference: a long record
+// takes half the time.
+#[inline(always)]
 fn turn(trace: &mut Trace, input: &[u8], output: &mut Out<OUTPUT>)
     requires { 128 * length input.now ≤ 2097152 }
     ensures trace { trace.new ≡ ran input.now trace.old }
@@ -27,6 +29,7 @@ fn turn(trace: &mut Trace, input: &[u8], output: &mut Out<OUTPUT>)
 }
 
 // The end of the input.
+#[inline(always)]
 fn last(trace: Trace, out: &mut Out<OUTPUT>)
     ensures { out.new ≡ last_text trace }
 {
