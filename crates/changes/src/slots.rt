@@ -1,12 +1,13 @@
 // The tables of the record, slot by slot.
 ghost use Rattle.std.specs.Prelude.{◌≡◌, ℕ, List, ◌++◌, ◌+◌, ◌*◌, ◌≤◌, ◌<◌, length};
 ghost use Rattle.record.specs.Record.{no_process, no_flag, no_mutex, no_channel};
-ghost use Rattle.changes.specs.Changes.{process_change, flag_change, mutex_change, channel_change, slots};
+ghost use Rattle.text.specs.Put.{Put};
+ghost use Rattle.changes.specs.Changes.{process_change, flag_change, mutex_change, channel_change, slots, process_changes, flag_changes, mutex_changes, channel_changes};
 
 use crate::fields;
 use record::{Flag, Mutex, Process};
 use ring::Channel;
-use text::output::Out;
+use text::output::{Out, text};
 
 // A slot of a table: `change` is what is printed of slot i, at most `most` bytes, and `none` is what an empty slot holds.
 pub trait Slot<const N: usize> {
@@ -102,4 +103,42 @@ pub fn put_slots<T: Slot<N>, const LEN: usize, const N: usize>(
     for (i, (was, is)) in old.iter().zip(new).enumerate() {
         T::put(out, i as u32, was, is);
     }
+}
+
+// ---- into a slice
+
+pub fn put_processes(out: &mut [u8], at: usize, a: &[Process; 32], b: &[Process; 32]) -> usize
+    requires { at + 2080 ≤ length out.old }
+    ensures { Put out.old at (process_changes a.now b.now 32) result out.new × (result ≤ at + 2080) }
+{
+    let mut t: Out<2080> = Out::new();
+    put_slots(&mut t, a, b);
+    text(out, at, t.written())
+}
+
+pub fn put_flags(out: &mut [u8], at: usize, a: &[Flag; 8], b: &[Flag; 8]) -> usize
+    requires { at + 328 ≤ length out.old }
+    ensures { Put out.old at (flag_changes a.now b.now 8) result out.new × (result ≤ at + 328) }
+{
+    let mut t: Out<328> = Out::new();
+    put_slots(&mut t, a, b);
+    text(out, at, t.written())
+}
+
+pub fn put_mutexes(out: &mut [u8], at: usize, a: &[Mutex; 8], b: &[Mutex; 8]) -> usize
+    requires { at + 352 ≤ length out.old }
+    ensures { Put out.old at (mutex_changes a.now b.now 8) result out.new × (result ≤ at + 352) }
+{
+    let mut t: Out<352> = Out::new();
+    put_slots(&mut t, a, b);
+    text(out, at, t.written())
+}
+
+pub fn put_channels(out: &mut [u8], at: usize, a: &[Channel; 4], b: &[Channel; 4]) -> usize
+    requires { at + 448 ≤ length out.old }
+    ensures { Put out.old at (channel_changes a.now b.now 4) result out.new × (result ≤ at + 448) }
+{
+    let mut t: Out<448> = Out::new();
+    put_slots(&mut t, a, b);
+    text(out, at, t.written())
 }

@@ -1,14 +1,15 @@
 // The values of the fields, and their text put. A number takes at most 10 bytes, a wait at most 32.
-ghost use Rattle.std.specs.Prelude.{◌≡◌, ℕ, List, ◌++◌, ◌+◌, ◌≤◌, ◌↔◌, IsTrue, length};
+ghost use Rattle.std.specs.Prelude.{◌≡◌, ℕ, List, [], ◌∷◌, ◌++◌, ◌+◌, ◌≤◌, ◌↔◌, IsTrue, length};
 ghost use Rattle.std.proofs.Common.{rules};
 ghost use Rattle.text.specs.Ascii.{ascii};
 ghost use Rattle.text.specs.Decimals.{digits};
+ghost use Rattle.text.specs.Put.{Put};
 ghost use Rattle.changes.specs.Values.{bit, end_text, owner_text, wait_text};
 
 use maps::Number;
 use record::Wait;
 use ring::End;
-use text::output::Out;
+use text::output::{Out, number, text};
 
 // A value that is printed where it changes, into a room of N bytes: in the replay's words, so that it is no `Display` of a kernel's wait or owner.
 // N is the trait's, since a trait's method can have no const parameter of its own.
@@ -105,4 +106,42 @@ fn put_at_end<const N: usize>(out: &mut Out<N>, word: &[u8], i: u32, end: End, l
     }
     out.byte(b'.');
     out.number(last);
+}
+
+// ---- into a slice
+
+pub fn put_byte(out: &mut [u8], at: usize, byte: u8) -> usize
+    requires { at + 1 ≤ length out.old }
+    ensures { Put out.old at (byte ∷ []) result out.new }
+{
+    out[at] = byte;
+    at + 1
+}
+
+#[tactic(auto, using(text::proofs::Decimals::digits_within))]
+pub fn put_digits(out: &mut [u8], at: usize, n: u32) -> usize
+    requires { at + 10 ≤ length out.old }
+    ensures { Put out.old at (digits n) result out.new × (result ≤ at + 10) }
+{
+    number(out, at, n)
+}
+
+#[tactic(auto, using(text::proofs::Decimals::digits_within))]
+pub fn put_owner(out: &mut [u8], at: usize, o: Option<Number>) -> usize
+    requires { at + 10 ≤ length out.old }
+    ensures { Put out.old at (owner_text o) result out.new × (result ≤ at + 10) }
+{
+    match o {
+        None => text(out, at, b"nobody"),
+        Some(p) => number(out, at, p.0),
+    }
+}
+
+pub fn put_wait(out: &mut [u8], at: usize, w: Wait) -> usize
+    requires { at + 32 ≤ length out.old }
+    ensures { Put out.old at (wait_text w) result out.new × (result ≤ at + 32) }
+{
+    let mut t: Out<32> = Out::new();
+    w.put(&mut t);
+    text(out, at, t.written())
 }

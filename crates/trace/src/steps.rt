@@ -6,7 +6,7 @@ ghost use Rattle.trace.specs.Output.{did, done_by, start, line_of, after};
 
 use crate::Command;
 use crate::commands::order_of;
-use crate::lines::line;
+use crate::lines::write_line;
 use record::{Kernel, Setup};
 use rules::{Answer, Call, Refusal};
 use std::marker::Model;
@@ -104,7 +104,7 @@ impl Bench {
         let answer = self.perform(command);
         match command {
             None => out.text(b"?,refused,15,,\r\n"),
-            Some(_) => line(out, word, answer, self.kernel.running.0, self.kernel.ready),
+            Some(_) => write_line(out, word, answer, self.kernel.running.0, self.kernel.ready),
         }
     }
 }
